@@ -1,0 +1,14 @@
+pub mod TextFile
+pub mod WordLines
+pub mod KeyFile
+pub mod StreamFile
+pub mod ScriptFile
+pub mod ListFiles
+pub mod Frames
+pub mod Coalition
+pub mod View
+pub mod Logs
+pub mod Shifts
+pub mod Steering
+pub mod Trial
+pub mod Laws

@@ -1,0 +1,5 @@
+pub mod Words
+pub mod Bytes
+pub mod Text
+pub mod Outside
+pub mod Recorded

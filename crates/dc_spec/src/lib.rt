@@ -1,0 +1,2 @@
+//! The definitions that every contract of this repository speaks in.
+#![tactic(auto)]
