@@ -1,0 +1,5 @@
+pub mod PutLemmas
+pub mod PrintLemmas
+pub mod CommandLemmas
+pub mod RanLemmas
+pub mod PromiseLemmas

@@ -1,0 +1,38 @@
+use Rattle.dc_cli.proofs.PromiseLemmas.{RefusesOtherWords-run, PrintsSums-run, Completes-run, AsksInOrder-run, KeepsFiles-run, PrintsOnlyWhenDone-run, MissesTheAbsent-run, RefusesTheLong-run, RefusesTheMalformed-run, TellsTheFault-run, TellsTheLast-run, HasCauses-run}
+use Rattle.dc_cli.proofs.top.dcnet.Goals as goal
+
+pub returns-clause-words : goal.returns-clause-words
+returns-clause-words g c = RefusesOtherWords-run _ c.run-outcome.ensures
+
+pub returns-clause-sums : goal.returns-clause-sums
+returns-clause-sums g c = PrintsSums-run _ c.run-outcome.ensures
+
+pub returns-clause-complete : goal.returns-clause-complete
+returns-clause-complete g c = Completes-run _ c.run-outcome.ensures
+
+pub returns-clause-asked : goal.returns-clause-asked
+returns-clause-asked g c = AsksInOrder-run _ c.run-outcome.ensures
+
+pub returns-clause-kept : goal.returns-clause-kept
+returns-clause-kept g c = KeepsFiles-run _ c.run-outcome.ensures
+
+pub returns-clause-silent : goal.returns-clause-silent
+returns-clause-silent g c = PrintsOnlyWhenDone-run _ c.run-outcome.ensures
+
+pub returns-clause-missing : goal.returns-clause-missing
+returns-clause-missing g c = MissesTheAbsent-run _ c.run-outcome.ensures
+
+pub returns-clause-too_long : goal.returns-clause-too_long
+returns-clause-too_long g c = RefusesTheLong-run _ c.run-outcome.ensures
+
+pub returns-clause-malformed : goal.returns-clause-malformed
+returns-clause-malformed g c = RefusesTheMalformed-run _ c.run-outcome.ensures
+
+pub returns-clause-fault : goal.returns-clause-fault
+returns-clause-fault g c = TellsTheFault-run _ c.run-outcome.ensures
+
+pub returns-clause-causes : goal.returns-clause-causes
+returns-clause-causes g c = HasCauses-run _ c.run-outcome.ensures
+
+pub returns-clause-last : goal.returns-clause-last
+returns-clause-last g c = TellsTheLast-run _ c.run-outcome.ensures

@@ -1,0 +1,27 @@
+-- Commands, and the words that spell them.
+use Rattle.std.specs.Prelude.{ℕ, ◌+◌, ◌≡◌, false, List, [], ◌∷◌, codes, IsTrue, Result, Ok, Err}
+use Rattle.dc_cli.specs.Forms.{name, is_name, begun, spells, is_form, longest_begun}
+use Rattle.dc_cli.specs.declared.command.Command.{Command}
+use Rattle.dc_cli.specs.declared.command.Command.TheVariants.{Sum}
+
+-- a command with what it was given
+pub data Asked : Type 0 where
+  sum : List ℕ → Asked
+
+-- the words spell the command
+abbrev pub Spells : List (List ℕ) → Asked → Type 0
+Spells words (sum file) = (words ≡ codes "sum" ∷ file ∷ []) × IsTrue (is_name file)
+
+-- a command as it was read
+abbrev pub asked : Command → Asked
+asked (Sum file) = sum file.now
+
+-- the words were read as the command that they spell, or are no form
+abbrev pub ReadsAs : List (List ℕ) → Result Command ℕ → Type 0
+ReadsAs words (Ok command) = Spells words (asked command)
+ReadsAs words (Err place) = (is_form words ≡ false) × (place ≡ longest_begun words)
+
+-- the words after `sum` were read as its file, or do not fit
+abbrev pub ReadsAsFile : List (List ℕ) → Result Command ℕ → Type 0
+ReadsAsFile words (Ok (Sum file)) = (words ≡ file.now ∷ []) × IsTrue (is_name file.now)
+ReadsAsFile words (Err place) = (spells (name ∷ []) words ≡ false) × (place ≡ 1 + begun (name ∷ []) words)

@@ -1,0 +1,49 @@
+-- The forms of the command line.
+use Rattle.std.specs.Prelude.{String, ℕ, suc, Bool, true, false, not, ◌&&◌, ◌==◌, max, List, [], ◌∷◌, map, codes, if◌then◌else◌, fold}
+use Rattle.std.specs.String.{string_bytes}
+use Rattle.std.specs.Str.{bytes_eq}
+use Rattle.std.specs.List.{list_any}
+
+-- the place of a word in a form: a fixed word, or a name
+pub data Slot : Type 0 where
+  literal : List ℕ → Slot
+  name : Slot
+
+-- a name is not empty and does not begin with `-`
+abbrev pub is_name : List ℕ → Bool
+is_name [] = false
+is_name (c ∷ _) = not (c == 45)
+
+-- a word fits a place: it is the fixed word, or a name
+abbrev pub fits : Slot → List ℕ → Bool
+fits (literal due) word = bytes_eq word due
+fits name word = is_name word
+
+-- how many words from the front fit a form, one by one
+abbrev pub begun : List Slot → List (List ℕ) → ℕ
+begun [] words = 0
+begun (slot ∷ slots) [] = 0
+begun (slot ∷ slots) (word ∷ words) = if fits slot word then suc (begun slots words) else 0
+
+-- the words spell a form: each fits, and none is missing or left over
+abbrev pub spells : List Slot → List (List ℕ) → Bool
+spells [] [] = true
+spells [] (_ ∷ _) = false
+spells (slot ∷ slots) [] = false
+spells (slot ∷ slots) (word ∷ words) = fits slot word && spells slots words
+
+-- all forms of the command line
+abbrev pub forms : List (List Slot)
+forms = (literal (codes "sum") ∷ name ∷ []) ∷ []
+
+-- the words are one of the forms
+abbrev pub is_form : List (List ℕ) → Bool
+is_form words = list_any (λ form. spells form words) forms
+
+-- the length of the longest beginning of the words that begins a form
+abbrev pub longest_begun : List (List ℕ) → ℕ
+longest_begun words = fold max 0 (map (λ form. begun form words) forms)
+
+-- the words of a command line as lists of bytes
+abbrev pub texts : {A : Type 0} → List (String A) → List (List ℕ)
+texts words = map string_bytes words

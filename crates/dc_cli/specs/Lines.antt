@@ -1,0 +1,46 @@
+-- The line that each outcome puts on the sink of faults.
+use Rattle.std.specs.Prelude.{ℕ, List, [], ◌++◌, codes, decimal}
+use Rattle.dc_spec.specs.Text.{line}
+use Rattle.dc_superpose.specs.declared.fault.TranscriptFault.{TranscriptFault}
+use Rattle.dc_superpose.specs.declared.fault.TranscriptFault.TheVariants.{Truncated, Magic, Stations, Words, Symbol, Rest}
+use Rattle.dc_cli.specs.declared.outcome.FileFault.{FileFault}
+use Rattle.dc_cli.specs.declared.outcome.FileFault.TheVariants.{Transcript}
+use Rattle.dc_cli.specs.declared.outcome.Outcome.{Outcome}
+use Rattle.dc_cli.specs.declared.outcome.Outcome.TheVariants.{Done, Usage, Missing, TooLong, Malformed, ShelfFault, SinkFault, NoMemory}
+
+-- a text and a number after it, in decimal
+abbrev pub numbered : List ℕ → ℕ → List ℕ
+numbered text n = text ++ decimal n
+
+-- a fault of a transcript: its name, then its fields
+abbrev pub transcript_fault_text : TranscriptFault → List ℕ
+transcript_fault_text (Truncated at need) = numbered (codes "truncated at=") at ++ numbered (codes " need=") need
+transcript_fault_text Magic = codes "magic"
+transcript_fault_text (Stations seen) = numbered (codes "stations seen=") seen
+transcript_fault_text (Words seen) = numbered (codes "words seen=") seen
+transcript_fault_text (Symbol at seen) = numbered (codes "symbol at=") at ++ numbered (codes " seen=") seen
+transcript_fault_text (Rest at) = numbered (codes "rest at=") at
+
+-- a fault of a file: that of its format
+abbrev pub file_fault_text : FileFault → List ℕ
+file_fault_text (Transcript fault) = transcript_fault_text fault
+
+-- what is told of each outcome
+abbrev pub told : Outcome → List ℕ
+told Done = []
+told (Usage place) = numbered (codes "usage: word ") place
+told (Missing name) = name ++ codes ": missing"
+told (TooLong name) = name ++ codes ": too long"
+told (Malformed name fault) = name ++ codes ": malformed: " ++ file_fault_text fault
+told ShelfFault = codes "file fault"
+told SinkFault = codes "output fault"
+told NoMemory = codes "no memory"
+
+-- the line of an outcome that is not `Done`
+abbrev pub told_line : Outcome → List ℕ
+told_line outcome = codes "dcnet: " ++ line (told outcome)
+
+-- what an outcome puts on the sink of faults: its line, and nothing where all was done
+abbrev pub fault_line : Outcome → List ℕ
+fault_line Done = []
+fault_line other = told_line other

@@ -1,0 +1,96 @@
+-- The promises of a call in its reader's words; each follows from what the call did by its outcome.
+use Rattle.std.specs.Prelude.{ℕ, ◌≡◌, ◌≤◌, ◌⊎◌, List, [], ◌∷◌, ◌++◌, length, false, Err}
+use Rattle.dc_spec.specs.Outside.{ShelfState, SinkState, absent, held, Rose, grown, IsFront}
+use Rattle.dc_spec.specs.Recorded.{Recorded, IsRecorded, transcript_bytes, superposed}
+use Rattle.dc_spec.specs.Text.{words_text}
+use Rattle.dc_edge.specs.Shelf.{IsHeldAbove, FailsUntold}
+use Rattle.dc_superpose.specs.Reading.{transcript_of}
+use Rattle.dc_superpose.specs.declared.fault.TranscriptFault.{TranscriptFault}
+use Rattle.dc_cli.specs.Forms.{is_form, longest_begun}
+use Rattle.dc_cli.specs.Commands.{Asked, sum, Spells}
+use Rattle.dc_cli.specs.Summing.{transcript_limit, Refused}
+use Rattle.dc_cli.specs.declared.outcome.Outcome.{Outcome}
+use Rattle.dc_cli.specs.declared.outcome.Outcome.TheVariants.{Done, Usage, Missing, TooLong, Malformed, ShelfFault, SinkFault, NoMemory}
+use Rattle.dc_cli.specs.declared.outcome.FileFault.{FileFault}
+use Rattle.dc_cli.specs.declared.outcome.FileFault.TheVariants.{Transcript}
+
+-- the states of the shelf and of the output before and after a call, and its outcome
+pub record Call : Type 0 where
+  pub words : List (List ℕ)
+  pub shelf : ShelfState
+  pub shelf' : ShelfState
+  pub out : SinkState
+  pub out' : SinkState
+  pub outcome : Outcome
+
+-- a call by its parts
+abbrev pub call_of : List (List ℕ) → ShelfState → ShelfState → SinkState → SinkState → Outcome → Call
+call_of words before after printed_before printed_after ended = record { words = words; shelf = before; shelf' = after; out = printed_before; out' = printed_after; outcome = ended }
+
+-- the files that the words ask for, in order
+abbrev pub files_of : Asked → List (List ℕ)
+files_of (sum file) = file ∷ []
+
+-- words that are no form are refused, and no others are
+pub record RefusesOtherWords (c : Call) : Type 0 where
+  pub refused : is_form c.words ≡ false → c.outcome ≡ Usage (longest_begun c.words)
+  pub only : (place : ℕ) → c.outcome ≡ Usage place → is_form c.words ≡ false
+
+-- what each name holds stays
+abbrev pub KeepsFiles : Call → Type 0
+KeepsFiles c = c.shelf'.holds ≡ c.shelf.holds
+
+-- the shelf was asked for a front of the files of the words, and for all of them where all was done
+pub record AsksInOrder (c : Call) : Type 0 where
+  pub front : (command : Asked) → Spells c.words command → (names : List (List ℕ)) × IsFront names (files_of command) × (c.shelf'.asked ≡ grown c.shelf.asked names)
+  pub whole : (command : Asked) → Spells c.words command → c.outcome ≡ Done → c.shelf'.asked ≡ grown c.shelf.asked (files_of command)
+  pub none : is_form c.words ≡ false → c.shelf'.asked ≡ c.shelf.asked
+
+-- nothing is printed but where all was done or the output failed
+abbrev pub PrintsOnlyWhenDone : Call → Type 0
+PrintsOnlyWhenDone c = (c.outcome ≡ Done → ⊥) → (c.outcome ≡ SinkFault → ⊥) → c.out' ≡ c.out
+
+-- where `sum` is done, the file is the transcript of a session, and the text of its superposed words was printed
+abbrev pub PrintsSums : Call → Type 0
+PrintsSums c = c.outcome ≡ Done → (file bytes : List ℕ) → Spells c.words (sum file) → c.shelf.holds file ≡ held bytes →
+    (session : Recorded) × IsRecorded session × (bytes ≡ transcript_bytes session) × (c.out'.written ≡ grown c.out.written (words_text (superposed session)))
+
+-- the most bytes that a file of a command may have
+abbrev pub limit_of : Asked → List ℕ → ℕ
+limit_of (sum file) name = transcript_limit
+
+-- the outcome tells a name
+abbrev pub TellsName : Outcome → List ℕ → Type 0
+TellsName outcome name = (outcome ≡ Missing name) ⊎ ((outcome ≡ TooLong name) ⊎ ((fault : FileFault) × (outcome ≡ Malformed name fault)))
+
+-- a name that is told is the last one that the shelf was asked for
+abbrev pub TellsTheLast : Call → Type 0
+TellsTheLast c = (name : List ℕ) → TellsName c.outcome name → (front : List (List ℕ)) × (c.shelf'.asked ≡ grown c.shelf.asked (front ++ name ∷ []))
+
+-- a name is told as missing only where the shelf tells that it does not hold it, or tells nothing and its faults rose
+abbrev pub MissesTheAbsent : Call → Type 0
+MissesTheAbsent c = (name : List ℕ) → c.outcome ≡ Missing name → (c.shelf.holds name ≡ absent) ⊎ FailsUntold (c.shelf.holds name) c.shelf.faults c.shelf'.faults
+
+-- a name is told as too long only where it holds more than its limit, or the shelf tells nothing and its faults rose
+abbrev pub RefusesTheLong : Call → Type 0
+RefusesTheLong c = (command : Asked) (name : List ℕ) → Spells c.words command → c.outcome ≡ TooLong name →
+    IsHeldAbove (c.shelf.holds name) (limit_of command name) ⊎ FailsUntold (c.shelf.holds name) c.shelf.faults c.shelf'.faults
+
+-- a fault of a transcript is the first one of the bytes that the shelf tells of its name, which are the transcript of no session
+abbrev pub TellsTheFault : Call → Type 0
+TellsTheFault c = (name bytes : List ℕ) → (fault : TranscriptFault) → c.outcome ≡ Malformed name (Transcript fault) → c.shelf.holds name ≡ held bytes → Refused bytes fault
+
+-- a file that is told, within its limit and no transcript is refused by its first fault, unless a fault rose or memory ran out
+abbrev pub RefusesTheMalformed : Call → Type 0
+RefusesTheMalformed c = (file bytes : List ℕ) → (fault : TranscriptFault) → Spells c.words (sum file) → c.shelf.holds file ≡ held bytes → length bytes ≤ transcript_limit → transcript_of bytes ≡ Err fault →
+    (Rose c.shelf.faults c.shelf'.faults → ⊥) → (c.outcome ≡ Malformed file (Transcript fault)) ⊎ (c.outcome ≡ NoMemory)
+
+-- a fault of the outside is told only where its count rose
+pub record HasCauses (c : Call) : Type 0 where
+  pub shelf : c.outcome ≡ ShelfFault → Rose c.shelf.faults c.shelf'.faults
+  pub sink : c.outcome ≡ SinkFault → Rose c.out.faults c.out'.faults
+
+-- where the file is told, within its limit and the transcript of a session, and no fault rose, all is done unless memory ran out
+abbrev pub Completes : Call → Type 0
+Completes c = (file : List ℕ) → (session : Recorded) → Spells c.words (sum file) → IsRecorded session → c.shelf.holds file ≡ held (transcript_bytes session) → length (transcript_bytes session) ≤ transcript_limit →
+    (Rose c.shelf.faults c.shelf'.faults → ⊥) → (Rose c.out.faults c.out'.faults → ⊥) → (c.outcome ≡ Done) ⊎ (c.outcome ≡ NoMemory)

@@ -1,0 +1,23 @@
+-- Reading one file, by how it ended.
+use Rattle.std.specs.Prelude.{ℕ, ◌≡◌, List, Result, Ok, Err}
+use Rattle.dc_spec.specs.Outside.{ShelfState}
+use Rattle.dc_edge.specs.Shelf.{Reads}
+use Rattle.dc_edge.specs.declared.fault.ShelfFault.TheVariants as faults
+use Rattle.dc_cli.specs.declared.outcome.Outcome.{Outcome}
+use Rattle.dc_cli.specs.declared.outcome.Outcome.TheVariants.{Done, Usage, Missing, TooLong, Malformed, ShelfFault, SinkFault, NoMemory}
+
+-- for want of memory the name was not asked for, and nothing changed
+abbrev pub Unasked : ShelfState → ShelfState → Type 0
+Unasked before after = (after.holds ≡ before.holds) × (after.asked ≡ before.asked) × (after.faults ≡ before.faults)
+
+-- the bytes of a name, or the outcome that the shelf's answer is
+abbrev pub ReadsFile : List ℕ → ℕ → ShelfState → ShelfState → Result (List ℕ) Outcome → Type 0
+ReadsFile file limit before after (Ok bytes) = Reads file limit before after (Ok bytes)
+ReadsFile file limit before after (Err (Missing name)) = (name ≡ file) × Reads file limit before after (Err faults.Missing)
+ReadsFile file limit before after (Err (TooLong name)) = (name ≡ file) × Reads file limit before after (Err faults.TooLong)
+ReadsFile file limit before after (Err ShelfFault) = Reads file limit before after (Err faults.Failed)
+ReadsFile file limit before after (Err NoMemory) = Unasked before after
+ReadsFile file limit before after (Err Done) = ⊥
+ReadsFile file limit before after (Err (Usage place)) = ⊥
+ReadsFile file limit before after (Err (Malformed name fault)) = ⊥
+ReadsFile file limit before after (Err SinkFault) = ⊥

@@ -1,0 +1,73 @@
+//! The line that an outcome puts on the sink of faults.
+
+ghost use Rattle.std.specs.Prelude.{◌≡◌};
+ghost use Rattle.dc_edge.specs.Sink.{Puts};
+ghost use Rattle.dc_cli.specs.Lines.{transcript_fault_text, file_fault_text, told, told_line, fault_line};
+
+use crate::outcome::{FileFault, Outcome};
+use crate::pieces::{put_named, put_number};
+use dc_edge::{Failed, Sink};
+use dc_superpose::TranscriptFault;
+
+/// Puts the line of an outcome, and nothing at `Done`.
+pub fn put_fault<E: Sink>(o: &Outcome, err: &mut E) -> Result<(), Failed>
+    ensures { Puts (fault_line o.now) (E.state err.old) (E.state err.new) result }
+{
+    match o {
+        Outcome::Done => Ok(()),
+        other => put_told_line(other, err),
+    }
+}
+
+fn put_told_line<E: Sink>(o: &Outcome, err: &mut E) -> Result<(), Failed>
+    ensures { Puts (told_line o.now) (E.state err.old) (E.state err.new) result }
+{
+    err.put(b"dcnet: ")?;
+    put_told(o, err)?;
+    err.put(b"\n")
+}
+
+fn put_told<E: Sink>(o: &Outcome, err: &mut E) -> Result<(), Failed>
+    ensures { Puts (told o.now) (E.state err.old) (E.state err.new) result }
+{
+    match o {
+        Outcome::Done => Ok(()),
+        Outcome::Usage { place } => put_number(err, b"usage: word ", u64::from(*place)),
+        Outcome::Missing { name } => put_named(err, name, b": missing"),
+        Outcome::TooLong { name } => put_named(err, name, b": too long"),
+        Outcome::Malformed { name, fault } => {
+            put_named(err, name, b": malformed: ")?;
+            put_file_fault(fault, err)
+        }
+        Outcome::ShelfFault => err.put(b"file fault"),
+        Outcome::SinkFault => err.put(b"output fault"),
+        Outcome::NoMemory => err.put(b"no memory"),
+    }
+}
+
+fn put_file_fault<E: Sink>(fault: &FileFault, err: &mut E) -> Result<(), Failed>
+    ensures { Puts (file_fault_text fault.now) (E.state err.old) (E.state err.new) result }
+{
+    match fault {
+        FileFault::Transcript(fault) => put_transcript_fault(fault, err),
+    }
+}
+
+fn put_transcript_fault<E: Sink>(fault: &TranscriptFault, err: &mut E) -> Result<(), Failed>
+    ensures { Puts (transcript_fault_text fault.now) (E.state err.old) (E.state err.new) result }
+{
+    match *fault {
+        TranscriptFault::Truncated { at, need } => {
+            put_number(err, b"truncated at=", at)?;
+            put_number(err, b" need=", need)
+        }
+        TranscriptFault::Magic => err.put(b"magic"),
+        TranscriptFault::Stations { seen } => put_number(err, b"stations seen=", u64::from(seen)),
+        TranscriptFault::Words { seen } => put_number(err, b"words seen=", u64::from(seen)),
+        TranscriptFault::Symbol { at, seen } => {
+            put_number(err, b"symbol at=", at)?;
+            put_number(err, b" seen=", u64::from(seen))
+        }
+        TranscriptFault::Rest { at } => put_number(err, b"rest at=", at),
+    }
+}

@@ -1,0 +1,15 @@
+//! The top call: the words of a command line, a shelf, two sinks, and an outcome.
+#![tactic(auto)]
+
+mod command;
+mod fault_line;
+mod outcome;
+mod pieces;
+mod printing;
+mod reading;
+mod summing;
+mod top;
+
+pub use fault_line::put_fault;
+pub use outcome::{FileFault, Outcome, status};
+pub use top::dcnet;

@@ -1,0 +1,32 @@
+//! A text that is put piece by piece.
+
+ghost use Rattle.std.specs.Prelude.{◌≡◌, ◌++◌};
+ghost use Rattle.dc_edge.specs.Sink.{Puts};
+ghost use Rattle.dc_cli.specs.Lines.{numbered};
+
+use dc_edge::{Failed, Sink};
+use dc_field::Text;
+use itoa::Buffer;
+
+/// Puts two pieces as one text.
+pub fn put_two<K: Sink>(out: &mut K, first: &[u8], second: &[u8]) -> Result<(), Failed>
+    ensures { Puts (first.now ++ second.now) (K.state out.old) (K.state out.new) result }
+{
+    out.put(first)?;
+    out.put(second)
+}
+
+/// Puts a text and a number after it, in decimal.
+pub fn put_number<K: Sink>(out: &mut K, text: &[u8], n: u64) -> Result<(), Failed>
+    ensures { Puts (numbered text.now n) (K.state out.old) (K.state out.new) result }
+{
+    let mut buffer = Buffer::new();
+    put_two(out, text, buffer.format(n).as_bytes())
+}
+
+/// Puts a name and a text after it.
+pub fn put_named<K: Sink>(out: &mut K, name: &Text, text: &[u8]) -> Result<(), Failed>
+    ensures { Puts (name.now ++ text.now) (K.state out.old) (K.state out.new) result }
+{
+    put_two(out, name.as_str().as_bytes(), text)
+}

@@ -1,0 +1,62 @@
+//! The command `sum`.
+
+ghost use Rattle.dc_cli.specs.Summing.{SumRan, SummedFile, SummedBytes, TellsFault};
+
+use crate::outcome::{FileFault, Outcome};
+use crate::printing::put_words;
+use crate::reading::read_file;
+use dc_edge::{Shelf, Sink};
+use dc_field::{Refusal, Text, Words};
+use dc_superpose::{TranscriptFault, read_transcript, sums};
+use std::alloc::Global;
+
+/// The most bytes that a transcript may have.
+const TRANSCRIPT_LIMIT: u64 = 134217728;
+
+/// Prints the superposed words of a transcript.
+pub fn run_sum<F: Shelf, K: Sink>(alloc: Global, file: &str, shelf: &mut F, out: &mut K) -> Outcome
+    ensures { SumRan file.now (F.state shelf.old) (F.state shelf.new) (K.state out.old) (K.state out.new) result }
+{
+    match sums_of_file(alloc, file, shelf) {
+        Err(outcome) => outcome,
+        Ok(words) => match put_words(&words, out) {
+            Ok(()) => Outcome::Done,
+            Err(_) => Outcome::SinkFault,
+        },
+    }
+}
+
+/// The superposed words of the transcript that a file holds.
+fn sums_of_file<F: Shelf>(alloc: Global, file: &str, shelf: &mut F) -> Result<Words, Outcome>
+    ensures { SummedFile file.now (F.state shelf.old) (F.state shelf.new) result }
+{
+    let bytes = read_file(alloc, shelf, file, TRANSCRIPT_LIMIT)?;
+    sums_of_bytes(alloc, file, bytes.as_slice())
+}
+
+/// The superposed words of the transcript that these bytes of a file spell.
+fn sums_of_bytes(alloc: Global, file: &str, bytes: &[u8]) -> Result<Words, Outcome>
+    ensures { SummedBytes file.now bytes.now result }
+{
+    match read_transcript(alloc, bytes) {
+        Ok(session) => match sums(alloc, &session) {
+            Ok(words) => Ok(words),
+            Err(_) => Err(Outcome::NoMemory),
+        },
+        Err(Refusal::NoMemory) => Err(Outcome::NoMemory),
+        Err(Refusal::Bad(fault)) => Err(malformed(alloc, file, fault)),
+    }
+}
+
+/// The outcome of a fault in a transcript.
+fn malformed(alloc: Global, file: &str, fault: TranscriptFault) -> Outcome
+    ensures { TellsFault file.now fault result }
+{
+    match Text::copy_of(alloc, file) {
+        Ok(name) => Outcome::Malformed {
+            name,
+            fault: FileFault::Transcript(fault),
+        },
+        Err(_) => Outcome::NoMemory,
+    }
+}

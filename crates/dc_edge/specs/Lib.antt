@@ -1,0 +1,5 @@
+pub mod Shelf
+pub mod ShelfBook
+pub mod Sink
+pub mod SinkBook
+pub mod Untold

@@ -1,0 +1,36 @@
+-- What a call of a shelf does to its state, by its answer.
+use Rattle.std.specs.Prelude.{ℕ, ◌≤◌, ◌<◌, ◌≡◌, ◌⊎◌, List, [], ◌∷◌, length, Option, Result, Ok, Err}
+use Rattle.dc_spec.specs.Outside.{Holding, untold, absent, held, ShelfState, Rose, Tells, grown}
+use Rattle.dc_edge.specs.declared.fault.ShelfFault.{ShelfFault}
+use Rattle.dc_edge.specs.declared.fault.ShelfFault.TheVariants.{Missing, TooLong, Failed, NoMemory}
+
+-- what a name holds is told, and longer than the limit
+abbrev pub IsHeldAbove : Holding → ℕ → Type 0
+IsHeldAbove told limit = (bytes : List ℕ) × (told ≡ held bytes) × (limit < length bytes)
+
+-- the name is put at the end of the names asked for, but for want of memory
+abbrev pub asked_after : {A : Type 0} → Result A ShelfFault → List ℕ → Option (List (List ℕ)) → Option (List (List ℕ))
+asked_after (Ok _) name told = grown told (name ∷ [])
+asked_after (Err Missing) name told = grown told (name ∷ [])
+asked_after (Err TooLong) name told = grown told (name ∷ [])
+asked_after (Err Failed) name told = grown told (name ∷ [])
+asked_after (Err NoMemory) name told = told
+
+-- the shelf does not tell of a name, and its count of faults rose
+abbrev pub FailsUntold : Holding → ℕ → ℕ → Type 0
+FailsUntold told before now = (told ≡ untold) × Rose before now
+
+-- when each answer comes
+abbrev pub ReadAnswer : List ℕ → ℕ → ShelfState → ShelfState → Result (List ℕ) ShelfFault → Type 0
+ReadAnswer name limit before after (Ok bytes) = (length bytes ≤ limit) × Tells (before.holds name) bytes
+ReadAnswer name limit before after (Err Missing) = (before.holds name ≡ absent) ⊎ FailsUntold (before.holds name) before.faults after.faults
+ReadAnswer name limit before after (Err TooLong) = IsHeldAbove (before.holds name) limit ⊎ FailsUntold (before.holds name) before.faults after.faults
+ReadAnswer name limit before after (Err Failed) = Rose before.faults after.faults
+ReadAnswer name limit before after (Err NoMemory) = after.faults ≡ before.faults
+
+-- a read of a name: what is held stays, the name was asked for, the count never falls
+pub record Reads (name : List ℕ) (limit : ℕ) (before after : ShelfState) (result : Result (List ℕ) ShelfFault) : Type 0 where
+  pub kept : after.holds ≡ before.holds
+  pub asked : after.asked ≡ asked_after result name before.asked
+  pub counted : before.faults ≤ after.faults
+  pub answer : ReadAnswer name limit before after result

@@ -1,0 +1,44 @@
+//! Why the outside did not do what it was asked.
+
+ghost use Rattle.std.specs.Prelude.{◌≡◌};
+ghost use Rattle.dc_edge.specs.declared.fault.ShelfFault.TheVariants.{NoMemory as no_memory};
+
+use std::alloc::{AllocError, AllocFailed};
+use thiserror::Error;
+
+/// A call of an object of the outside failed; the object's count of faults rose.
+#[derive(Clone, Copy, Debug, PartialEq, Eq)]
+pub struct Failed;
+
+/// Why a shelf gave no bytes.
+#[derive(Clone, Copy, Debug, PartialEq, Eq, Error)]
+pub enum ShelfFault {
+    /// The shelf does not hold the name.
+    #[error("missing")]
+    Missing,
+    /// The name holds more bytes than the limit.
+    #[error("too long")]
+    TooLong,
+    /// The shelf failed.
+    #[error("file fault")]
+    Failed,
+    /// Memory ran out.
+    #[error("no memory")]
+    NoMemory,
+}
+
+impl From<AllocError> for ShelfFault {
+    ghost from_gives = { λ _ e. e ≡ no_memory };
+
+    fn from(_e: AllocError) -> ShelfFault {
+        ShelfFault::NoMemory
+    }
+}
+
+impl<T: Drop> From<AllocFailed<T>> for ShelfFault {
+    ghost from_gives = { λ _ e. e ≡ no_memory };
+
+    fn from(_e: AllocFailed<T>) -> ShelfFault {
+        ShelfFault::NoMemory
+    }
+}

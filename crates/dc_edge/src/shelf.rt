@@ -1,0 +1,18 @@
+//! A shelf: bytes by name.
+
+ghost use Rattle.dc_spec.specs.Outside.{ShelfState};
+ghost use Rattle.dc_edge.specs.Shelf.{Reads};
+
+use crate::fault::ShelfFault;
+use dc_field::Bytes;
+use std::alloc::Global;
+
+/// Files by name.
+pub trait Shelf {
+    /// What each name holds, the names asked for so far, and the count of faults.
+    ghost state: { Self → ShelfState };
+
+    /// The bytes of a name, at most `limit` of them.
+    fn read(&mut self, alloc: Global, name: &str, limit: u64) -> Result<Bytes, ShelfFault>
+        ensures { Reads name.now limit (state self.old) (state self.new) result };
+}

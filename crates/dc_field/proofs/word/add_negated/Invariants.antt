@@ -1,0 +1,8 @@
+use Rattle.std.proofs.Common.{◌≡◌, ℕ, ◌+◌, ◌-◌, ◌<◌, ◌≤◌, get_or}
+use Rattle.dc_field.proofs.word.add_negated.Given as goal
+
+-- the totals below the place have grown, the others are as they were
+abbrev pub invariant-loop-l : goal.invariant-loop-l
+invariant-loop-l l =
+    ((k : ℕ) → k < l.l → get_or l.totals k 0 ≡ get_or l.initial.totals k 0 + (65537 - get_or l.w k 0))
+    × ((k : ℕ) → l.l ≤ k → get_or l.totals k 0 ≡ get_or l.initial.totals k 0)

@@ -1,0 +1,6 @@
+pub mod WordInBytes
+pub mod WordInText
+pub mod NumberInText
+pub mod Answers
+pub mod GroupAnswers
+pub mod IsGroup

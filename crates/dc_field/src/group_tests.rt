@@ -1,0 +1,239 @@
+use super::*;
+use std::test::*;
+
+/// The number that hexadecimal digits spell.
+fn number(digits: &[u8]) -> u32 {
+    let mut number = 0u32;
+    for d in digits {
+        let digit = if *d < 58 {
+            d.wrapping_sub(48)
+        } else {
+            d.wrapping_sub(87)
+        };
+        number = number.wrapping_mul(16).wrapping_add(u32::from(digit));
+    }
+    number
+}
+
+/// The word of eighty digits.
+fn word(text: &str) -> Option<Word> {
+    let digits = text.as_bytes();
+    if digits.len() != 80 {
+        return None;
+    }
+    let mut w = Word::zero();
+    for l in 0..16 {
+        w.set(l, Sym::new(number(&digits[5 * l..5 * l + 5]))?);
+    }
+    Some(w)
+}
+
+/// The value of thirty digits.
+fn value(text: &str) -> Option<Value> {
+    let digits = text.as_bytes();
+    if digits.len() != 30 {
+        return None;
+    }
+    let mut bytes = [0u8; 15];
+    for i in 0..15 {
+        bytes[i] = (number(&digits[2 * i..2 * i + 2]) % 256) as u8;
+    }
+    Some(Value { bytes })
+}
+
+/// Whether a group has the count and the limbs of a word.
+fn is_of(group: &Group, w: &Word) -> bool {
+    let numbers = w.numbers();
+    if u32::from(group.count()) != numbers[0] {
+        return false;
+    }
+    for l in 1..16 {
+        if u32::from(group.limb(l)) != numbers[l] {
+            return false;
+        }
+    }
+    true
+}
+
+/// A word that is to be a group of this total, mean and equal value.
+fn check_group(
+    text: &str,
+    total: u128,
+    mean: Option<u128>,
+    equal: Option<&str>,
+) -> Result<(), Fail> {
+    let w = word(text).ok_or("it is a word")?;
+    let group = Group::of_word(&w).ok().ok_or("it is a group")?;
+    if !is_of(&group, &w) || group.total() != total || group.mean() != mean {
+        return Err("another group")?;
+    }
+    let due = match equal {
+        Some(digits) => value(digits),
+        None => None,
+    };
+    if group.equal_value() != due {
+        return Err("another equal value")?;
+    }
+    Ok(())
+}
+
+/// A word that is to be no group by this fault.
+fn check_fault(text: &str, due: BadGroup) -> Result<(), Fail> {
+    let w = word(text).ok_or("it is a word")?;
+    match Group::of_word(&w) {
+        Err(fault) if fault == due => Ok(()),
+        _ => Err("another answer")?,
+    }
+}
+
+/// A whole and a part, and what is to be left.
+fn check_rest(whole: &str, part: &str, rest: &str) -> Result<(), Fail> {
+    let whole = word(whole).ok_or("it is a word")?;
+    let part = word(part).ok_or("it is a word")?;
+    let due = word(rest).ok_or("it is a word")?;
+    let whole = Group::of_word(&whole).ok().ok_or("it is a group")?;
+    let part = Group::of_word(&part).ok().ok_or("it is a group")?;
+    let rest = whole.minus(&part).ok().ok_or("it is a part")?;
+    if is_of(&rest, &due) {
+        Ok(())
+    } else {
+        Err("another rest")?
+    }
+}
+
+/// A whole and what is to be no part of it by this fault.
+fn check_unlike(whole: &str, part: &str, due: BadSplit) -> Result<(), Fail> {
+    let whole = word(whole).ok_or("it is a word")?;
+    let part = word(part).ok_or("it is a word")?;
+    let whole = Group::of_word(&whole).ok().ok_or("it is a group")?;
+    let part = Group::of_word(&part).ok().ok_or("it is a group")?;
+    match whole.minus(&part) {
+        Err(fault) if fault == due => Ok(()),
+        _ => Err("another answer")?,
+    }
+}
+
+#[test]
+fn values(rt: HostRuntime) -> Result<(), Fail> {
+    let least = Value { bytes: [0; 15] };
+    let greatest = Value { bytes: [255; 15] };
+    for (x, due) in [
+        (0, Some(least)),
+        (1329227995784915872903807060280344575, Some(greatest)),
+        (1329227995784915872903807060280344576, None),
+        (258, value("000000000000000000000000000102")),
+    ] {
+        assert_eq!(rt; Value::of_number(x) == due, true, "at {x}");
+    }
+    let short = value("010000000000000000000000000203").ok_or("it is a value")?;
+    assert_eq!(rt; short.number(), 5192296858534827628530496329220611);
+    let due = word(
+        "00100001000000000000000000000000000000000000000000000000000000000000000020000300",
+    ).ok_or("it is a word")?;
+    assert_eq!(rt;
+        short.to_word(256).numbers().as_slice(),
+        due.numbers().as_slice()
+    );
+    Ok(())
+}
+
+#[test]
+fn groups() -> Result<(), Fail> {
+    check_group(
+        "0000300286000000016e0000000000000000000000000002fd000a0002fd002fd002fd002fd00192",
+        3354252768120978868993767443340983954,
+        Some(1118084256040326289664589147780327984),
+        None,
+    )?;
+    check_group(
+        "0000100000000ff000ff000260000000000000170002e000110000000000000ff0009000056000ff",
+        5192229390803114169853614283052799,
+        Some(5192229390803114169853614283052799),
+        Some("00ffff260000172e110000ff9056ff"),
+    )?;
+    check_group(
+        "001000a76d0ff0004c2605f26000000a66402ae800000000000000003d2d00000071df08bc704395",
+        223872623365024906870782400573278456469,
+        Some(874502435019628542463993752239368970),
+        None,
+    )?;
+    check_group(
+        "00000000000000000000000000000000000000000000000000000000000000000000000000000000",
+        0,
+        None,
+        None,
+    )?;
+    check_group(
+        "0000500313004800000f004fb00000004fb00000004fb000000035000436004fb004fb0000000000",
+        4109704546552162413301942605147996160,
+        Some(821940909310432482660388521029599232),
+        None,
+    )?;
+    check_fault(
+        "00001000ff0000000075000ff0010100000000d000000000ff000ff0003e000ff000ff000ff00000",
+        BadGroup::Limb { l: 5, seen: 257 },
+    )?;
+    check_fault(
+        "10000004fb004fb002050000000000004fb004fb00000004fb004fb0014800128001f100000004fb",
+        BadGroup::Count { seen: 65536 },
+    )?;
+    check_fault(
+        "00001000000005f100000000000000000d1000e3000af000ff000ce000ff00000000ff000bc000ff",
+        BadGroup::Limb { l: 3, seen: 65536 },
+    )?;
+    check_group(
+        "00006005fa005fa005fa005fa005fa005fa005fa005fa005fa005fa005fa005fa005fa005fa005fa",
+        7975367974709495237422842361682067450,
+        Some(1329227995784915872903807060280344575),
+        Some("ffffffffffffffffffffffffffffff"),
+    )?;
+    Ok(())
+}
+
+#[test]
+fn splits() -> Result<(), Fail> {
+    check_rest(
+        "00007002430045c006f90000000000006f90000000000006f9000000057400622000000021c00000",
+        "0000600188003d3005fa0000000000005fa0000000000005fa00000004df0053200000001a800000",
+        "00001000bb00089000ff0000000000000ff0000000000000ff0000000095000f0000000007400000",
+    )?;
+    check_rest(
+        "00003002d9000a800000002e300000001a900086000a7002fd00218002fd002fd002880024900000",
+        "00002001e10001300000001fd00000001420003900012001fe001dc001fe001fe001fb001f800000",
+        "00001000f80009500000000e600000000670004d00095000ff0003c000ff000ff0008d0005100000",
+    )?;
+    check_rest(
+        "00007000000066500000006f90052700000006f900142006f9002350001000000003990046c00000",
+        "0000200000001fd00000001fe0019d00000001fe000eb001fe0008e0000a00000001590018800000",
+        "00005000000046800000004fb0038a00000004fb00057004fb001a7000060000000240002e400000",
+    )?;
+    check_unlike(
+        "0000300000002fd002fd000cf002fd001bf000f100056002fd002fd00000002fd0000000000000d7",
+        "00000000000000000000000000000000000000000000000000000000000000000000000000000000",
+        BadSplit::Count { whole: 3, part: 0 },
+    )?;
+    check_unlike(
+        "000020000000124001d40000000051001fe001fe000000016900182000ee001fe000ad001fe001fe",
+        "000030000000124001d40000000051001fe001fe000000016900182000ee001fe000ad001fe001fe",
+        BadSplit::Count { whole: 2, part: 3 },
+    )?;
+    check_unlike(
+        "00100000000ff000a2f0032f0000000b3d50a8bd0000000000000000abcb0ff000ff00000000bec5",
+        "000da000000d926097a302788000000b0680992d0000000000000000aaa50d9260d926000280b678",
+        BadSplit::Limb {
+            l: 14,
+            whole: 0,
+            part: 40,
+        },
+    )?;
+    check_unlike(
+        "00100000000a5130ff000ff000ff00090ee0ff0005b16000000ff0000000000000bb8c0ff000c155",
+        "00010000000067900ff000ff000ff0000b800ff00059d0000000fef0000000000008b400ff000842",
+        BadSplit::Limb {
+            l: 10,
+            whole: 65280,
+            part: 4079,
+        },
+    )?;
+    Ok(())
+}

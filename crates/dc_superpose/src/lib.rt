@@ -1,0 +1,15 @@
+//! A recorded session: its file, and its superposed words.
+#![tactic(auto)]
+
+mod fault;
+mod reading;
+mod superposing;
+mod transcript;
+
+pub use fault::TranscriptFault;
+pub use reading::read_transcript;
+pub use superposing::sums;
+pub use transcript::Transcript;
+
+#[cfg(test)]
+mod tests;

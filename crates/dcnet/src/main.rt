@@ -1,0 +1,53 @@
+//! `dcnet`: makes the real objects, runs the top call, and ends with its status.
+#![tactic(auto)]
+
+use dc_cli::{Outcome, dcnet, put_fault, status};
+use dc_edge::{DirShelf, OpenGate, StdSink};
+use std::io::ErrorKind;
+use std::process::ExitCode;
+use std::{env, io};
+
+#[cfg(test)]
+mod tests;
+
+fn main(rt: HostRuntime) -> ExitCode {
+    let mut err = StdSink::new(rt.stderr());
+    let outcome = match arguments(&rt) {
+        Ok(words) => {
+            let mut shelf = DirShelf::new(rt);
+            let mut out = StdSink::new(rt.stdout());
+            dcnet(
+                &rt,
+                rt.alloc(),
+                &words,
+                &mut shelf,
+                &mut out,
+                &mut err,
+                &OpenGate,
+            )
+        }
+        Err(error) => {
+            let outcome = untold(error);
+            let _ = put_fault(&outcome, &mut err);
+            outcome
+        }
+    };
+    ExitCode::from(status(&outcome))
+}
+
+/// The command line without the program's name.
+fn arguments(rt: &HostRuntime) -> io::Result<Vec<String>> {
+    let mut words = Vec::new(rt.alloc());
+    for word in env::args(rt)?.skip(1) {
+        words.push(word)?;
+    }
+    Ok(words)
+}
+
+/// The outcome of a command line that cannot be had as text: memory ran out, or a word is not UTF-8.
+fn untold(error: io::Error) -> Outcome {
+    match error.kind() {
+        ErrorKind::OutOfMemory => Outcome::NoMemory,
+        _ => Outcome::Usage { place: 0 },
+    }
+}
