@@ -1,0 +1,38 @@
+-- A key graph as it is kept: its edges in rising order.
+use Rattle.std.specs.Prelude.{ℕ, ◌+◌, ◌<◌, ◌≤◌, ◌≡◌, List, length, slice_index_or, All}
+use Rattle.dc_protocol.specs.Graphs.{KeyGraph}
+
+-- so many stations, and the pairs that share pads
+pub record PlainGraph : Type 0 where
+  pub stations : ℕ
+  pub edges : List (ℕ × ℕ)
+
+-- the key graph with the stations of a coalition
+abbrev pub with_coalition : PlainGraph → List ℕ → KeyGraph
+with_coalition g members = record { stations = g.stations; edges = g.edges; coalition = members }
+
+-- the smaller ends do not fall, and where they are equal the greater ends rise
+pub record IsBefore (e f : ℕ × ℕ) : Type 0 where
+  pub lesser : e.0 ≤ f.0
+  pub greater : e.0 ≡ f.0 → e.1 < f.1
+
+-- each edge is before the next
+abbrev pub AreRising : List (ℕ × ℕ) → Type 0
+AreRising es = (i : ℕ) (d : ℕ × ℕ) → i + 1 < length es → IsBefore (slice_index_or es i d) (slice_index_or es (i + 1) d)
+
+-- two different of so many stations, the smaller one first
+pub record IsEdge (stations : ℕ) (e : ℕ × ℕ) : Type 0 where
+  pub ends : e.0 < e.1
+  pub within : e.1 < stations
+
+-- 1 to 256 stations, edges between them, each once, rising
+pub record IsGraph (g : PlainGraph) : Type 0 where
+  pub some_stations : 1 ≤ g.stations
+  pub most_stations : g.stations ≤ 256
+  pub are_edges : All (IsEdge g.stations) g.edges
+  pub rising : AreRising g.edges
+
+-- the members of a coalition: stations, each once, rising
+pub record AreMembers (members : List ℕ) : Type 0 where
+  pub stations : All (λ m. m < 256) members
+  pub rising : (i : ℕ) → i + 1 < length members → slice_index_or members i 0 < slice_index_or members (i + 1) 0

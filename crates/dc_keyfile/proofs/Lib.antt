@@ -1,0 +1,6 @@
+mod Generated
+mod Pads
+mod PairsRead
+mod Spelling
+mod Rereading
+mod Putting

@@ -1,0 +1,66 @@
+//! Writing a key file.
+
+ghost use Rattle.std.specs.Prelude.{◌≡◌, ◌++◌, ◌<◌, [], ◌∷◌, IfOk, OnOk, Ok, codes};
+ghost use Rattle.std.specs.List.{flat_map};
+ghost use Rattle.std.specs.Int.{w16, w32, to_be_bytes};
+ghost use Rattle.dc_spec.specs.Bytes.{symbol_bytes};
+ghost use Rattle.dc_formats.specs.KeyFile.{pair_bytes, keys_bytes};
+ghost use Rattle.dc_keyfile.specs.Reading.{keys_of};
+
+use dc_field::{Bytes, NoMemory};
+use dc_keys::{KeyFile, PairKey};
+use std::alloc::Global;
+
+/// The bytes of a key file, in room taken once.
+pub fn key_bytes(alloc: Global, f: &KeyFile) -> Result<Bytes, NoMemory>
+    ensures written { IfOk result (λ b. b ≡ keys_bytes f.now) }
+    ensures read { IfOk result (λ b. keys_of b ≡ Ok f.now) }
+{
+    let pairs = f.pairs.as_slice();
+    let size = 4 + 128 * usize::from(f.words);
+    let mut bytes = Vec::with_capacity(alloc, 12 + size * pairs.len())?;
+    put_head(&mut bytes, f.stations, f.words, pairs.len() as u32)?;
+    put_pairs(&mut bytes, pairs)?;
+    Ok(Bytes::from_vec(bytes))
+}
+
+/// Puts the first twelve bytes.
+fn put_head(bytes: &mut Vec<u8>, stations: u16, words: u16, count: u32) -> Result<(), NoMemory>
+    ensures { OnOk result (bytes.new.items ≡ bytes.old.items ++ (codes "DCK" ++ 1 ∷ [] ++ to_be_bytes w16 stations ++ to_be_bytes w16 words ++ to_be_bytes w32 count)) }
+{
+    bytes.extend_from_slice(b"DCK\x01")?;
+    bytes.extend_from_slice(&stations.to_be_bytes())?;
+    bytes.extend_from_slice(&words.to_be_bytes())?;
+    bytes.extend_from_slice(&count.to_be_bytes())?;
+    Ok(())
+}
+
+/// Puts pairs one after another.
+fn put_pairs(bytes: &mut Vec<u8>, pairs: &[PairKey]) -> Result<(), NoMemory>
+    ensures { OnOk result (bytes.new.items ≡ bytes.old.items ++ flat_map pair_bytes pairs.now) }
+{
+    for pair in pairs {
+        put_pair(bytes, pair)?;
+    }
+    Ok(())
+}
+
+/// Puts the ends of a pair, its first pads and its second pads.
+fn put_pair(bytes: &mut Vec<u8>, pair: &PairKey) -> Result<(), NoMemory>
+    ensures { OnOk result (bytes.new.items ≡ bytes.old.items ++ pair_bytes pair.now) }
+{
+    bytes.extend_from_slice(&pair.u.to_be_bytes())?;
+    bytes.extend_from_slice(&pair.v.to_be_bytes())?;
+    put_pads(bytes, pair.a.as_slice())?;
+    put_pads(bytes, pair.b.as_slice())
+}
+
+/// Puts pads, four bytes each.
+fn put_pads(bytes: &mut Vec<u8>, pads: &[u32]) -> Result<(), NoMemory>
+    ensures { OnOk result (bytes.new.items ≡ bytes.old.items ++ flat_map symbol_bytes pads.now) }
+{
+    for x in pads {
+        bytes.extend_from_slice(&x.to_be_bytes())?;
+    }
+    Ok(())
+}

@@ -1,0 +1,3 @@
+mod KeySums
+mod SignedSums
+mod StationKeys

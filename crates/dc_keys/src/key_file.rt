@@ -1,0 +1,101 @@
+//! A key file.
+
+ghost use Rattle.std.specs.Prelude.{◌≡◌, ◌↔◌, IsTrue, IfOk, SomeIff};
+ghost use Rattle.dc_formats.specs.KeyFile.{IsKeys, IsPair, IsBefore};
+
+use crate::pair_key::PairKey;
+use crate::pairs::Pairs;
+use dc_field::NoMemory;
+use std::alloc::Global;
+use std::marker::Model;
+
+/// The pairs that share pads in a session, each pair once, rising by their ends. All pads
+/// together are at most 2^26.
+#[derive(Debug, Drop)]
+pub struct KeyFile {
+    /// 1 to 256.
+    pub stations: u16,
+    /// 1 to 4096: the number of rounds that the pads are for.
+    pub words: u16,
+    /// Each with its smaller end first, and sixteen first and sixteen second pads a word.
+    pub pairs: Pairs,
+}
+
+impl Model for KeyFile {
+    ghost use Rattle.dc_protocol.specs.Net.{Keys};
+    ghost use Rattle.dc_formats.specs.KeyFile.{IsKeys};
+
+    ghost Value = { Keys };
+
+    ghost view = { λ f. record { stations = f.stations; words = f.words; pairs = f.pairs } };
+
+    ghost invariant = { λ f. IsKeys (record { stations = f.stations; words = f.words; pairs = f.pairs }) };
+}
+
+impl KeyFile {
+    /// The key file of these pairs, where they are one.
+    pub fn new(stations: u16, words: u16, pairs: Pairs) -> Option<KeyFile>
+        ensures { SomeIff result (IsKeys (record { stations = stations; words = words; pairs = pairs })) (record { stations = stations; words = words; pairs = pairs }) }
+    {
+        if are_keys(stations, words, pairs.as_slice()) {
+            Some(KeyFile {
+                stations,
+                words,
+                pairs,
+            })
+        } else {
+            None
+        }
+    }
+
+    /// The same key file again.
+    pub fn copy(&self, alloc: Global) -> Result<KeyFile, NoMemory>
+        ensures { IfOk result (λ f. f ≡ self.now) }
+    {
+        let pairs = self.pairs.copy(alloc)?;
+        Ok(KeyFile {
+            stations: self.stations,
+            words: self.words,
+            pairs,
+        })
+    }
+}
+
+/// Whether pairs are those of a key file for so many stations and words.
+fn are_keys(stations: u16, words: u16, pairs: &[PairKey]) -> bool
+    ensures { IsTrue result ↔ IsKeys (record { stations = stations; words = words; pairs = pairs.now }) }
+{
+    if stations < 1 || 256 < stations || words < 1 || 4096 < words {
+        return false;
+    }
+    if (1 << 26) / (32 * usize::from(words)) < pairs.len() {
+        return false;
+    }
+    for i in 0..pairs.len() {
+        if !is_pair(stations, words, &pairs[i]) {
+            return false;
+        }
+        if 0 < i && !is_before(&pairs[i - 1], &pairs[i]) {
+            return false;
+        }
+    }
+    true
+}
+
+/// Whether a pair is one of so many stations, with pads for so many words.
+fn is_pair(stations: u16, words: u16, pair: &PairKey) -> bool
+    ensures { IsTrue result ↔ IsPair stations words pair.now }
+{
+    let pads = 16 * usize::from(words);
+    pair.u < pair.v
+        && pair.v < stations
+        && pair.a.as_slice().len() == pads
+        && pair.b.as_slice().len() == pads
+}
+
+/// Whether a pair comes before another.
+fn is_before(p: &PairKey, q: &PairKey) -> bool
+    ensures { IsTrue result ↔ IsBefore p.now q.now }
+{
+    p.u < q.u || (p.u == q.u && p.v < q.v)
+}

@@ -1,0 +1,3 @@
+mod FirstLine
+pub mod LineByLine
+pub mod PayloadDigits
