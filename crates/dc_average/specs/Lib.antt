@@ -1,0 +1,4 @@
+pub mod Stacks
+pub mod Items
+pub mod StandsFor
+pub mod Answers

@@ -1,0 +1,22 @@
+-- Groups that wait for their words.
+use Rattle.std.specs.Prelude.{ℕ, ◌+◌, ◌≤◌, List, [], ◌∷◌}
+use Rattle.dc_protocol.specs.Epochs.{Ranged}
+
+-- how many stations sent the values of a group
+abbrev pub count_of : Ranged → ℕ
+count_of item = item.group.count
+
+-- how many stations sent the values of all groups of a list
+abbrev pub counts_in : List Ranged → ℕ
+counts_in [] = 0
+counts_in (item ∷ items) = count_of item + counts_in items
+
+-- each group is of one station or more
+abbrev pub AreOfSome : List Ranged → Type 0
+AreOfSome [] = Unit {0}
+AreOfSome (item ∷ items) = (1 ≤ count_of item) × AreOfSome items
+
+-- each group is of one station or more, and all of them of 256 at most
+pub record IsStack (items : List Ranged) : Type 0 where
+  pub some : AreOfSome items
+  pub few : counts_in items ≤ 256

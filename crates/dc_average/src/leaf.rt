@@ -1,0 +1,87 @@
+//! Leaves: values that came out of an epoch.
+
+ghost use Rattle.std.specs.Prelude.{◌≡◌, ◌<◌, ◌≤◌, [], ◌∷◌, ◌++◌, IfOk, length, slice_get};
+ghost use Rattle.dc_protocol.specs.Epochs.{Leaf as leaf_record};
+
+use dc_field::{NoMemory, Value};
+use std::alloc::Global;
+use std::marker::Model;
+
+/// A value that came out of an epoch; contracts see the record of its fields.
+#[derive(Clone, Copy, Debug)]
+pub struct Leaf {
+    pub value: Value,
+    /// How many stations sent it, 1 to 256.
+    pub times: u16,
+    /// The least number of its group's range.
+    pub low: u128,
+    /// The greatest number of its group's range; below `low` only in a disturbed epoch.
+    pub high: u128,
+}
+
+impl Model for Leaf {
+    ghost use Rattle.dc_protocol.specs.Epochs.{Leaf as leaf_record};
+
+    ghost Value = { leaf_record };
+
+    ghost view = { λ l. record { value = l.value; times = l.times; low = l.low; high = l.high } };
+
+    ghost inverse = { λ l. record { value = l.value; times = l.times; low = l.low; high = l.high } };
+}
+
+/// The leaves of one word, in the order in which they come out; contracts see their list.
+#[derive(Drop)]
+pub struct Leaves {
+    items: Vec<Leaf>,
+}
+
+impl Model for Leaves {
+    ghost use Rattle.std.specs.Prelude.{List, ◌≤◌, length, vec_capacity};
+    ghost use Rattle.dc_protocol.specs.Epochs.{Leaf as leaf_record};
+
+    ghost Value = { List leaf_record };
+
+    ghost view = { λ l. l.items.items };
+
+    ghost invariant = { λ l. (256 ≤ vec_capacity l.items) × (length l.items.items ≤ 256) };
+}
+
+impl Leaves {
+    /// No leaves, and room for 256, the most that one word lets out.
+    pub fn start(alloc: Global) -> Result<Leaves, NoMemory>
+        ensures { IfOk result (λ leaves. leaves ≡ []) }
+    {
+        let items = Vec::with_capacity(alloc, 256)?;
+        Ok(Leaves { items })
+    }
+
+    pub fn len(&self) -> usize
+        ensures len { result ≡ length self.now }
+        ensures most { length self.now ≤ 256 }
+    {
+        self.items.len()
+    }
+
+    /// Leaf number `i`, from 0.
+    pub fn get(&self, i: usize) -> Leaf
+        requires { i < length self.now }
+        ensures { slice_get self.now i ≡ Some result }
+    {
+        self.items[i]
+    }
+
+    /// Takes all leaves out.
+    pub(crate) fn clear(&mut self)
+        ensures { self.new ≡ [] }
+    {
+        self.items.clear();
+    }
+
+    /// Puts a leaf at the end. Takes no memory.
+    pub(crate) fn push(&mut self, leaf: Leaf)
+        requires { length self.old < 256 }
+        ensures { self.new ≡ self.old ++ leaf ∷ [] }
+    {
+        let _ = self.items.push(leaf);
+    }
+}
