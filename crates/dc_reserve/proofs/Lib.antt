@@ -1,0 +1,4 @@
+pub mod FieldLemmas
+pub mod FragmentLemmas
+pub mod StepLemmas
+pub mod BurstLemmas

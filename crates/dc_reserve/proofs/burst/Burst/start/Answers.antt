@@ -1,0 +1,6 @@
+use Rattle.std.proofs.Common.{refl}
+use Rattle.dc_protocol.proofs.MessageBursts.{none_go_on}
+use Rattle.dc_reserve.proofs.burst.Burst.start.Goals as goal
+
+pub returns-clause-stands : goal.returns-clause-stands
+returns-clause-stands c = record { kept = rw none_go_on (refl, c.in_ok-bytes.ensures.items) }

@@ -1,0 +1,4 @@
+pub mod Fields
+pub mod Phases
+pub mod StandsFor
+pub mod Laws

@@ -1,0 +1,93 @@
+//! A burst: words are taken one after the other, and a message comes out.
+
+ghost use Rattle.std.specs.Prelude.{◌≡◌, ℕ, ◌+◌, ◌*◌, ◌≤◌, List, [], ◌∷◌, ◌++◌, IfOk, length};
+ghost use Rattle.dc_protocol.specs.Bursts.{burst_of, gave};
+ghost use Rattle.dc_reserve.specs.Phases.{IsGoing, MayFollow, phase_after};
+ghost use Rattle.dc_reserve.specs.StandsFor.{IsAfter, IsWhole, StandsFor, Tells};
+
+use crate::judge::{BurstStep, Phase, judge};
+use dc_field::{NoMemory, Word};
+use std::alloc::Global;
+use std::marker::Model;
+
+/// A burst; contracts see where it stands and the bytes of its words.
+#[derive(Drop)]
+pub struct Burst {
+    phase: Phase,
+    bytes: Vec<u8>,
+}
+
+impl Model for Burst {
+    ghost use Rattle.std.specs.Prelude.{◌≤◌, vec_capacity};
+    ghost use Rattle.dc_reserve.specs.Phases.{Fits};
+    ghost use Rattle.dc_reserve.specs.StandsFor.{State};
+
+    ghost Value = { State };
+
+    ghost view = { λ b. record { phase = b.phase; bytes = b.bytes.items } };
+
+    ghost invariant = { λ b. Fits b.phase b.bytes.items × (3840 ≤ vec_capacity b.bytes) };
+}
+
+impl Burst {
+    /// A burst before its first word, with room for the bytes of 256 words.
+    pub fn start(alloc: Global) -> Result<Burst, NoMemory>
+        ensures stands { IfOk result (λ burst. StandsFor burst []) }
+        ensures going { IfOk result (λ burst. IsGoing burst.phase) }
+    {
+        let bytes = Vec::with_capacity(alloc, 3840)?;
+        Ok(Burst {
+            phase: Phase::First,
+            bytes,
+        })
+    }
+
+    /// A burst before its first word, whatever was taken. Takes no memory.
+    pub fn restart(&mut self)
+        ensures stands { StandsFor self.new [] }
+        ensures going { IsGoing self.new.phase }
+    {
+        self.phase = Phase::First;
+        self.bytes.clear();
+    }
+
+    /// Takes a word. Takes no memory.
+    pub fn take(&mut self, w: &Word) -> BurstStep
+        requires { IsGoing self.old.phase }
+        ensures stands { (words : List (List ℕ)) → StandsFor self.old words →
+            StandsFor self.new (words ++ w.now ∷ []) }
+        ensures step { (words : List (List ℕ)) → StandsFor self.old words →
+            Tells result (burst_of (words ++ w.now ∷ [])) }
+        ensures phase { IsAfter result self.new.phase }
+    {
+        let step = judge(self.phase, &mut self.bytes, w);
+        self.phase = phase_after(step, w);
+        step
+    }
+
+    /// The message of the burst that has just become whole.
+    pub fn message(&self) -> &[u8]
+        requires { IsWhole self.now.phase }
+        ensures { (words : List (List ℕ)) (message : List ℕ) → StandsFor self.now words →
+            burst_of words ≡ gave message → result.now ≡ message }
+    {
+        match self.phase {
+            Phase::Whole { length } => &self.bytes[2..2 + usize::from(length)],
+            _ => &[],
+        }
+    }
+}
+
+/// Where a burst stands after a step at this word.
+fn phase_after(step: BurstStep, w: &Word) -> Phase
+    requires { MayFollow step w.now }
+    ensures { result ≡ phase_after step w.now }
+{
+    match step {
+        BurstStep::Goes => Phase::Later {
+            left: w.numbers()[0] as u16 - 1,
+        },
+        BurstStep::Message { length } => Phase::Whole { length },
+        BurstStep::Void { .. } => Phase::Broken,
+    }
+}

@@ -1,0 +1,12 @@
+mod Putting
+mod Members
+mod QuietTurns
+mod ItemTexts
+mod LastTurn
+mod Entries
+mod Growing
+mod LinesLeft
+mod Rereading
+mod LinesAndTurns
+mod SameReading
+mod Rows

@@ -1,0 +1,271 @@
+-- What lines make of a list of items is what they make of its turns.
+use Rattle.std.proofs.Common.{◌≡◌, ℕ, zero, suc, ◌-◌, ◌==◌, Bool, true, false, not, ◌&&◌, ◌||◌, cond, List, [], ◌∷◌, ◌++◌, length, map, Option, Some, None, Result, Ok, Err, refl, sym, ◌∙◌, ap, inl, inr, ◌⊎◌, arith}
+use Rattle.std.specs.Prelude.{nat_le}
+use Rattle.std.specs.List.{list_any}
+use Rattle.std.proofs.Math.Seq.{get_or-append_seam}
+use Rattle.std.proofs.lemmas.Bool.{ne_eqb, le-leb}
+use Rattle.std.proofs.lemmas.Bool.Decides.{nat_tests}
+use Rattle.std.proofs.lemmas.List.{length-append, length-map, map-append, append-nil}
+use Rattle.std.proofs.lemmas.List.Elements.{filter_map-append}
+use Rattle.std.proofs.Math.Bool.{or-true, or-false}
+use Rattle.std.proofs.lemmas.Bool.{cases_Bool}
+use Rattle.dc_protocol.specs.Net.{Delivery, all_sum, each, Turn}
+use Rattle.dc_script.specs.declared.fault.ScriptKind.{ScriptKind}
+use Rattle.dc_script.specs.declared.fault.ScriptKind.TheVariants.{Round, TooMany, Misplaced, Order, Missing}
+use Rattle.dc_script.specs.declared.item.Item.{Item}
+use Rattle.dc_script.specs.declared.item.Item.TheVariants.{RoundLine, SayLine, AllLine, ToLine}
+use Rattle.dc_script.specs.Turns.{begun_turn, is_undelivered, is_waiting, is_next, told_count, with_say, with_all, with_to, with_item}
+use Rattle.dc_script.specs.Lines.{is_round, until_round, rounds_in, round_count, since_round, said_in, said, dealt_in, dealt, is_all, has_all, has_delivery, lacks_delivery, order_fault, item_fault, turn_of, turns_of}
+use Rattle.dc_script.proofs.LastTurn.{waits, say_at, all_at, to_at, to_sum}
+
+or_assoc : (a b c : Bool) → (a || (b || c)) ≡ ((a || b) || c)
+or_assoc true b c = refl
+or_assoc false b c = refl
+
+-- ---- one more line
+
+-- one more item in the last round
+put_last : Item → List (List Item) → List (List Item)
+put_last x [] = []
+put_last x (p ∷ []) = (p ++ x ∷ []) ∷ []
+put_last x (p ∷ q ∷ ps) = p ∷ put_last x (q ∷ ps)
+
+put_last_is : (x : Item) (ps : List (List Item)) (p : List Item) → put_last x (ps ++ p ∷ []) ≡ ps ++ (p ++ x ∷ []) ∷ []
+unfolding put_last
+put_last_is x [] p = refl
+put_last_is x (q ∷ []) p = refl
+put_last_is x (q ∷ r ∷ ps) p = ap (λ (rs : List (List Item)). q ∷ rs) (put_last_is x (r ∷ ps) p)
+
+-- where no round has begun, the first lines go on
+until_open : (x : Item) (ys : List Item) → is_round x ≡ false → rounds_in ys ≡ [] → until_round (ys ++ x ∷ []) ≡ until_round ys ++ x ∷ []
+until_open x [] other none = rw other refl
+until_open x (y ∷ ys) other none = elim (cases_Bool (is_round y)) [
+  | inl round ↦ absurd (let no : until_round ys ∷ rounds_in ys ≡ [] = rw round at none in cc)
+  | inr goes ↦ (let rest : rounds_in ys ≡ [] = rw goes at none in rw (goes, until_open x ys other rest) refl)
+]
+
+-- where one has, they have ended
+until_closed : (x : Item) (ys : List Item) (q : List Item) (qs : List (List Item)) → rounds_in ys ≡ q ∷ qs → until_round (ys ++ x ∷ []) ≡ until_round ys
+until_closed x [] q qs some = absurd cc
+until_closed x (y ∷ ys) q qs some = elim (cases_Bool (is_round y)) [
+  | inl round ↦ rw round refl
+  | inr goes ↦ (let rest : rounds_in ys ≡ q ∷ qs = rw goes at some in rw (goes, until_closed x ys q qs rest) refl)
+]
+
+first_round : (x : Item) (ys : List Item) (rs : List (List Item)) → is_round x ≡ false → rounds_in ys ≡ rs → until_round (ys ++ x ∷ []) ∷ put_last x rs ≡ put_last x (until_round ys ∷ rs)
+unfolding put_last
+first_round x ys [] other is = ap (λ (p : List Item). p ∷ []) (until_open x ys other is)
+first_round x ys (q ∷ qs) other is = ap (λ (p : List Item). p ∷ put_last x (q ∷ qs)) (until_closed x ys q qs is)
+
+-- a line that begins no round
+rounds_other : (x : Item) (ys : List Item) → is_round x ≡ false → rounds_in (ys ++ x ∷ []) ≡ put_last x (rounds_in ys)
+unfolding put_last
+rounds_other x [] other = rw other refl
+rounds_other x (y ∷ ys) other = elim (cases_Bool (is_round y)) [
+  | inl round ↦ rw (round, rounds_other x ys other) (first_round x ys (rounds_in ys) other refl)
+  | inr goes ↦ rw goes (rounds_other x ys other)
+]
+
+-- a round's line ends the lines before it
+until_round_line : (r : ℕ) (ys : List Item) → until_round (ys ++ RoundLine r ∷ []) ≡ until_round ys
+until_round_line r [] = refl
+until_round_line r (y ∷ ys) = elim (cases_Bool (is_round y)) [
+  | inl round ↦ rw round refl
+  | inr goes ↦ rw (goes, until_round_line r ys) refl
+]
+
+-- a line that begins one
+rounds_round : (r : ℕ) (ys : List Item) → rounds_in (ys ++ RoundLine r ∷ []) ≡ rounds_in ys ++ [] ∷ []
+rounds_round r [] = refl
+rounds_round r (y ∷ ys) = elim (cases_Bool (is_round y)) [
+  | inl round ↦ rw (round, rounds_round r ys, until_round_line r ys) refl
+  | inr goes ↦ rw goes (rounds_round r ys)
+]
+
+-- ---- rounds and their turns
+
+-- the rounds have a last one, or there is none
+record HasLastRound (rs : List (List Item)) : Type 0 where
+  before : List (List Item)
+  part : List Item
+  is : rs ≡ before ++ part ∷ []
+
+last_round : (rs : List (List Item)) → (rs ≡ []) ⊎ HasLastRound rs
+last_round [] = inl refl
+last_round (p ∷ rs) = inr (elim (last_round rs) [
+  | inl none ↦ record { before = []; part = p; is = rw none refl }
+  | inr more ↦ record { before = p ∷ more.before; part = more.part; is = ap (λ (qs : List (List Item)). p ∷ qs) more.is }
+])
+
+-- turns with a last one
+turns_last : (items : List Item) (ps : List (List Item)) (p : List Item) → rounds_in items ≡ ps ++ p ∷ [] → turns_of items ≡ map turn_of ps ++ turn_of p ∷ []
+turns_last items ps p is = ap (map turn_of) is ∙ map-append turn_of ps (p ∷ [])
+
+since_last : (items : List Item) (ps : List (List Item)) (p : List Item) → rounds_in items ≡ ps ++ p ∷ [] → since_round items ≡ p
+since_last items ps p is =
+    let place : length (ps ++ p ∷ []) - 1 ≡ length ps = omega (arith, length-append ps (p ∷ [])) in
+    rw (is, place) (get_or-append_seam ps p [] [])
+
+-- no words are dealt where there is none
+none_or_one : (n : ℕ) → (n == 0) ≡ not (nat_le 1 n)
+none_or_one zero = refl
+none_or_one (suc n) = grind (arith, nat_tests)
+
+undelivered_part : (p : List Item) → is_undelivered (turn_of p).delivery ≡ not (has_delivery p)
+undelivered_part p = elim (cases_Bool (has_all p)) [
+  | inl all ↦ rw all refl
+  | inr words ↦ rw words (none_or_one (length (dealt p)))
+]
+
+some_count : (ps : List (List Item)) (p : List Item) → nat_le 1 (length (ps ++ p ∷ [])) ≡ true
+some_count ps p = le-leb 1 _ (omega (arith, length-append ps (p ∷ [])))
+
+lacks_at : (items : List Item) (ps : List (List Item)) (p : List Item) → rounds_in items ≡ ps ++ p ∷ [] → lacks_delivery items ≡ not (has_delivery p)
+lacks_at items ps p is = ap (λ (part : List Item). nat_le 1 (round_count items) && not (has_delivery part)) (since_last items ps p is) ∙ rw (is, some_count ps p) refl
+
+-- turns wait where items lack a delivery
+pub same_waiting : (items : List Item) → is_waiting (turns_of items) ≡ lacks_delivery items
+same_waiting items = elim (last_round (rounds_in items)) [
+  | inl none ↦ rw none refl
+  | inr some ↦ ap is_waiting (turns_last items some.before some.part some.is) ∙ waits (map turn_of some.before) (turn_of some.part) ∙ undelivered_part some.part ∙ sym (lacks_at items some.before some.part some.is)
+]
+
+-- what is made of a fault, or of none
+unfoldable pub made : List Turn → Option ScriptKind → Result (List Turn) ScriptKind
+made turns None = Ok turns
+made turns (Some kind) = Err kind
+
+-- what a list of items with one more makes
+abbrev pub Made : List Item → Item → Type 0
+Made items x = with_item (turns_of items) x ≡ made (turns_of (items ++ x ∷ [])) (item_fault items x)
+
+made_of_two : (a b : Bool) (f g : ScriptKind) (ts : List Turn) → cond a (cond (not b) (Err f) (Ok ts)) (Err g) ≡ made ts (cond (not a) (Some g) (cond b None (Some f)))
+unfolding made
+made_of_two true true f g ts = refl
+made_of_two true false f g ts = refl
+made_of_two false b f g ts = refl
+
+made_of_one : (a : Bool) (g : ScriptKind) (ts : List Turn) → cond a (Ok ts) (Err g) ≡ made ts (cond (not a) (Some g) None)
+unfolding made
+made_of_one true g ts = refl
+made_of_one false g ts = refl
+
+made_of_three : (a b c : Bool) (f g h : ScriptKind) (ts : List Turn) → cond a (Err f) (cond b (Err g) (cond c (Err h) (Ok ts))) ≡ made ts (cond a (Some f) (cond b (Some g) (cond c (Some h) None)))
+unfolding made
+made_of_three true b c f g h ts = refl
+made_of_three false true c f g h ts = refl
+made_of_three false false true f g h ts = refl
+made_of_three false false false f g h ts = refl
+
+made_of_next : (b : Bool) (f : ScriptKind) (ts : List Turn) → cond (not b) (Err f) (Ok ts) ≡ made ts (cond b None (Some f))
+unfolding made
+made_of_next true f ts = refl
+made_of_next false f ts = refl
+
+-- a test of one more item
+any_more : (f : Item → Bool) (p : List Item) (x : Item) → list_any f (p ++ x ∷ []) ≡ (list_any f p || f x)
+any_more f [] x = or-false (f x)
+any_more f (y ∷ p) x = ap (λ (b : Bool). f y || b) (any_more f p x) ∙ or_assoc (f y) (list_any f p) (f x)
+
+-- a part with one more line
+abbrev delivery_of : Bool → List (ℕ × List ℕ) → Delivery
+delivery_of b ds = cond b all_sum (each ds)
+
+more_said : (p : List Item) (e : ℕ × List ℕ) → turn_of (p ++ SayLine e ∷ []) ≡ record { says = said p ++ e ∷ []; delivery = (turn_of p).delivery }
+more_said p e =
+    let says : said (p ++ SayLine e ∷ []) ≡ said p ++ e ∷ [] = filter_map-append said_in p (SayLine e ∷ []) in
+    let all : has_all (p ++ SayLine e ∷ []) ≡ has_all p = any_more is_all p (SayLine e) ∙ or-false (has_all p) in
+    let words : dealt (p ++ SayLine e ∷ []) ≡ dealt p = filter_map-append dealt_in p (SayLine e ∷ []) ∙ append-nil (dealt p) in
+    rw (says, all, words) refl
+
+more_all : (p : List Item) → turn_of (p ++ AllLine ∷ []) ≡ record { says = said p; delivery = all_sum }
+more_all p =
+    let says : said (p ++ AllLine ∷ []) ≡ said p = filter_map-append said_in p (AllLine ∷ []) ∙ append-nil (said p) in
+    let all : has_all (p ++ AllLine ∷ []) ≡ true = any_more is_all p AllLine ∙ or-true (has_all p) in
+    rw (says, all) refl
+
+more_dealt : (p : List Item) (e : ℕ × List ℕ) → has_all p ≡ false → turn_of (p ++ ToLine e ∷ []) ≡ record { says = said p; delivery = each (dealt p ++ e ∷ []) }
+more_dealt p e none =
+    let says : said (p ++ ToLine e ∷ []) ≡ said p = filter_map-append said_in p (ToLine e ∷ []) ∙ append-nil (said p) in
+    let all : has_all (p ++ ToLine e ∷ []) ≡ false = any_more is_all p (ToLine e) ∙ or-false (has_all p) ∙ none in
+    let words : dealt (p ++ ToLine e ∷ []) ≡ dealt p ++ e ∷ [] = filter_map-append dealt_in p (ToLine e ∷ []) in
+    rw (says, all, words) refl
+
+-- the turns of items with one more that begins no round
+turns_more : (items : List Item) (x : Item) (ps : List (List Item)) (p : List Item) → is_round x ≡ false → rounds_in items ≡ ps ++ p ∷ [] → turns_of (items ++ x ∷ []) ≡ map turn_of ps ++ turn_of (p ++ x ∷ []) ∷ []
+turns_more items x ps p other is = turns_last (items ++ x ∷ []) ps (p ++ x ∷ []) (rounds_other x items other ∙ ap (put_last x) is ∙ put_last_is x ps p)
+
+-- a round's line
+made_round : (items : List Item) (r : ℕ) → Made items (RoundLine r)
+made_round items r =
+    let count : length (turns_of items) ≡ round_count items = length-map (rounds_in items) turn_of in
+    let turns : turns_of (items ++ RoundLine r ∷ []) ≡ turns_of items ++ begun_turn ∷ [] = ap (map turn_of) (rounds_round r items) ∙ map-append turn_of (rounds_in items) ([] ∷ []) in
+    rw (same_waiting items, count, turns) (made_of_three (lacks_delivery items) (not (r == round_count items)) (nat_le 4096 (round_count items)) Missing (Round r (told_count (round_count items))) TooMany (turns_of items ++ begun_turn ∷ []))
+
+-- a word said
+made_say : (items : List Item) (e : ℕ × List ℕ) → Made items (SayLine e)
+unfolding made
+made_say items e = elim (last_round (rounds_in items)) [
+  | inl none ↦ rw none refl
+  | inr some ↦ (
+      let waiting : is_undelivered (turn_of some.part).delivery ≡ lacks_delivery items = undelivered_part some.part ∙ sym (lacks_at items some.before some.part some.is) in
+      let before : with_say (turns_of items) e ≡ cond (is_undelivered (turn_of some.part).delivery) (cond (not (is_next e.0 (said some.part))) (Err (Order e.0)) (Ok (map turn_of some.before ++ record { says = said some.part ++ e ∷ []; delivery = (turn_of some.part).delivery } ∷ []))) (Err Misplaced)
+      = ap (λ (ts : List Turn). with_say ts e) (turns_last items some.before some.part some.is) ∙ say_at (map turn_of some.before) (turn_of some.part) e in
+      let after : turns_of (items ++ SayLine e ∷ []) ≡ map turn_of some.before ++ record { says = said some.part ++ e ∷ []; delivery = (turn_of some.part).delivery } ∷ []
+      = turns_more items (SayLine e) some.before some.part refl some.is ∙ ap (λ (t : Turn). map turn_of some.before ++ t ∷ []) (more_said some.part e) in
+      before ∙ ap (λ (b : Bool). cond b (cond (not (is_next e.0 (said some.part))) (Err (Order e.0)) (Ok (map turn_of some.before ++ record { says = said some.part ++ e ∷ []; delivery = (turn_of some.part).delivery } ∷ []))) (Err Misplaced)) waiting
+      ∙ made_of_two (lacks_delivery items) (is_next e.0 (said some.part)) (Order e.0) Misplaced _
+      ∙ ap (λ (ts : List Turn). made ts (cond (not (lacks_delivery items)) (Some Misplaced) (order_fault e.0 (said some.part)))) (sym after)
+      ∙ ap (λ (part : List Item). made (turns_of (items ++ SayLine e ∷ [])) (cond (not (lacks_delivery items)) (Some Misplaced) (order_fault e.0 (said part)))) (sym (since_last items some.before some.part some.is)))
+]
+
+-- all receive the sum
+made_all : (items : List Item) → Made items AllLine
+unfolding made
+made_all items = elim (last_round (rounds_in items)) [
+  | inl none ↦ rw none refl
+  | inr some ↦ (
+      let waiting : is_undelivered (turn_of some.part).delivery ≡ lacks_delivery items = undelivered_part some.part ∙ sym (lacks_at items some.before some.part some.is) in
+      let before : with_all (turns_of items) ≡ cond (is_undelivered (turn_of some.part).delivery) (Ok (map turn_of some.before ++ record { says = said some.part; delivery = all_sum } ∷ [])) (Err Misplaced)
+      = ap with_all (turns_last items some.before some.part some.is) ∙ all_at (map turn_of some.before) (turn_of some.part) in
+      let after : turns_of (items ++ AllLine ∷ []) ≡ map turn_of some.before ++ record { says = said some.part; delivery = all_sum } ∷ []
+      = turns_more items AllLine some.before some.part refl some.is ∙ ap (λ (t : Turn). map turn_of some.before ++ t ∷ []) (more_all some.part) in
+      before ∙ ap (λ (b : Bool). cond b (Ok (map turn_of some.before ++ record { says = said some.part; delivery = all_sum } ∷ [])) (Err Misplaced)) waiting
+      ∙ made_of_one (lacks_delivery items) Misplaced _
+      ∙ ap (λ (ts : List Turn). made ts (cond (not (lacks_delivery items)) (Some Misplaced) None)) (sym after))
+]
+
+-- some rounds
+not_zero : (ps : List (List Item)) (p : List Item) → (length (ps ++ p ∷ []) == 0) ≡ false
+not_zero ps p = ne_eqb _ 0 (λ z. absurd (omega (arith, length-append ps (p ∷ []))))
+
+-- a word dealt
+made_to : (items : List Item) (e : ℕ × List ℕ) → Made items (ToLine e)
+unfolding made
+made_to items e = elim (last_round (rounds_in items)) [
+  | inl none ↦ rw none refl
+  | inr some ↦ (
+      let turns = turns_last items some.before some.part some.is in
+      let since = since_last items some.before some.part some.is in
+      let count : (round_count items == 0) ≡ false = ap (λ (rs : List (List Item)). length rs == 0) some.is ∙ not_zero some.before some.part in
+      elim (cases_Bool (has_all some.part)) [
+        | inl all ↦ (
+            let part : turn_of some.part ≡ record { says = said some.part; delivery = all_sum } = rw all refl in
+            let before : with_to (turns_of items) e ≡ Err Misplaced = ap (λ (ts : List Turn). with_to ts e) (turns ∙ ap (λ (t : Turn). map turn_of some.before ++ t ∷ []) part) ∙ to_sum (map turn_of some.before) (said some.part) e in
+            before ∙ rw (count, since, all) refl)
+        | inr words ↦ (
+            let part : turn_of some.part ≡ record { says = said some.part; delivery = each (dealt some.part) } = rw words refl in
+            let before : with_to (turns_of items) e ≡ cond (not (is_next e.0 (dealt some.part))) (Err (Order e.0)) (Ok (map turn_of some.before ++ record { says = said some.part; delivery = each (dealt some.part ++ e ∷ []) } ∷ []))
+            = ap (λ (ts : List Turn). with_to ts e) (turns ∙ ap (λ (t : Turn). map turn_of some.before ++ t ∷ []) part) ∙ to_at (map turn_of some.before) (said some.part) (dealt some.part) e in
+            let after : turns_of (items ++ ToLine e ∷ []) ≡ map turn_of some.before ++ record { says = said some.part; delivery = each (dealt some.part ++ e ∷ []) } ∷ []
+            = turns_more items (ToLine e) some.before some.part refl some.is ∙ ap (λ (t : Turn). map turn_of some.before ++ t ∷ []) (more_dealt some.part e words) in
+            before ∙ made_of_next (is_next e.0 (dealt some.part)) (Order e.0) _ ∙ rw (after, count, since, words) refl)
+      ])
+]
+
+-- any line
+pub made_item : (items : List Item) (x : Item) → Made items x
+made_item items (RoundLine r) = made_round items r
+made_item items (SayLine e) = made_say items e
+made_item items AllLine = made_all items
+made_item items (ToLine e) = made_to items e

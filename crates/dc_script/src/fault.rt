@@ -1,0 +1,39 @@
+//! Why bytes are no script.
+
+/// The first fault of a script file.
+#[derive(Clone, Copy, Debug, PartialEq, Eq)]
+pub struct ScriptFault {
+    /// The number of the faulty line, from 1; the greatest `u32` where it is above that.
+    pub line: u32,
+    /// What is wrong with it.
+    pub kind: ScriptKind,
+}
+
+/// What is wrong with a line of a script file, by the order of the tests.
+#[derive(Clone, Copy, Debug, PartialEq, Eq)]
+pub enum ScriptKind {
+    /// A character that no line may hold, or no line feed at the end.
+    NotText,
+    /// The first line is not `dcscript 1`.
+    Header,
+    /// A later line is none of a script's lines.
+    Form,
+    /// A round has another number than that of the rounds before it.
+    Round {
+        /// The number that is told.
+        told: u32,
+        /// How many rounds there are so far.
+        due: u32,
+    },
+    /// The 4097th round.
+    TooMany,
+    /// A line before the first round, or after the round's delivery.
+    Misplaced,
+    /// A station is not greater than that of the line before of its kind in this round.
+    Order {
+        /// The station of this line.
+        station: u16,
+    },
+    /// A round without a delivery: told at the next round's line, or one past the last line.
+    Missing,
+}

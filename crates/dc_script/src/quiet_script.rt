@@ -1,0 +1,82 @@
+//! The script of a coalition that says nothing.
+
+ghost use Rattle.std.specs.Prelude.{◌≡◌, ◌<◌, ◌≤◌, IfOk, All, map, filter, replicate};
+ghost use Rattle.std.specs.List.{range_with_len};
+ghost use Rattle.dc_spec.specs.Words.{zero_word};
+ghost use Rattle.dc_protocol.specs.Graphs.{is_among};
+ghost use Rattle.dc_graph.specs.Graph.{AreMembers};
+ghost use Rattle.dc_script.specs.Quiet.{quiet_says, quiet_turn, quiet_script};
+
+use crate::dealt::Dealt;
+use crate::delivery::Delivery;
+use crate::round::Round;
+use crate::rounds::Rounds;
+use crate::said::Said;
+use crate::script::Script;
+use dc_field::{NoMemory, Word};
+use dc_graph::Coalition;
+use std::alloc::Global;
+
+/// The script of a coalition in a graph of `n` stations, for a session of `words` rounds, in which
+/// every member says the zero word and every delivery is the sum.
+pub fn quiet(alloc: Global, c: &Coalition, n: u16, words: u16) -> Result<Script, NoMemory>
+    requires members { All (λ m. m < n) c.now }
+    requires some_words { 1 ≤ words }
+    requires most_words { words ≤ 4096 }
+    ensures { IfOk result (λ s. s ≡ quiet_script c.now words) }
+{
+    hold_members(c);
+    let rounds = quiet_rounds(alloc, c, n, words)?;
+    Ok(Script {
+        rounds: Rounds::from_vec(rounds),
+    })
+}
+
+/// So many quiet rounds.
+fn quiet_rounds(alloc: Global, c: &Coalition, n: u16, words: u16) -> Result<Vec<Round>, NoMemory>
+    requires { All (λ m. m < n) c.now }
+    ensures { IfOk result (λ rounds. rounds.items ≡ quiet_script c.now words) }
+{
+    let mut rounds = Vec::with_capacity(alloc, usize::from(words))?;
+    for _t in 0..words {
+        rounds.push(quiet_round(alloc, c, n)?)?;
+    }
+    Ok(rounds)
+}
+
+/// A round in which the members say the zero word.
+fn quiet_round(alloc: Global, c: &Coalition, n: u16) -> Result<Round, NoMemory>
+    requires { All (λ m. m < n) c.now }
+    ensures { IfOk result (λ round. round ≡ quiet_turn c.now) }
+{
+    let says = zero_words(alloc, c, n)?;
+    Ok(Round {
+        says: Dealt::from_vec(says),
+        delivery: Delivery::Sum,
+    })
+}
+
+/// The zero word for each member.
+fn zero_words(alloc: Global, c: &Coalition, n: u16) -> Result<Vec<Said>, NoMemory>
+    requires { All (λ m. m < n) c.now }
+    ensures { IfOk result (λ says. says.items ≡ quiet_says c.now) }
+{
+    hold_members(c);
+    let mut says = Vec::with_capacity(alloc, usize::from(c.len()))?;
+    for station in 0..n {
+        if c.holds(station) {
+            says.push(Said {
+                station,
+                word: Word::zero(),
+            })?;
+        }
+    }
+    Ok(says)
+}
+
+/// The members of a coalition are stations, each once, rising.
+fn hold_members(c: &Coalition)
+    ensures { AreMembers c.now }
+{
+    let _holds = c.holds(0);
+}

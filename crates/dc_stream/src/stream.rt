@@ -1,0 +1,126 @@
+//! What a station has to say.
+
+ghost use Rattle.std.specs.Prelude.{◌≡◌, ◌<◌, ◌≤◌, [], ◌∷◌, ◌++◌, IfOk, length};
+ghost use Rattle.dc_formats.specs.StreamFile.{IsStream};
+ghost use Rattle.dc_formats.specs.TextFile.{AreBytes};
+
+use crate::lists::{Longs, Shorts, copy_of};
+use dc_field::{Bytes, NoMemory, Value};
+use std::alloc::Global;
+use std::marker::Model;
+
+/// The stream of a station.
+#[derive(Debug, Drop)]
+pub struct Stream {
+    /// At most 4096.
+    pub shorts: Shorts,
+    /// At most 256, each of at most 3838 bytes.
+    pub longs: Longs,
+    /// The fields that it marks to reserve, 0 to 15; at most 4096.
+    pub coins: Bytes,
+}
+
+impl Model for Stream {
+    ghost use Rattle.dc_protocol.specs.Net.{Stream as stream_record};
+    ghost use Rattle.dc_formats.specs.StreamFile.{IsStream};
+
+    ghost Value = { stream_record };
+
+    ghost view = { λ s. record { shorts = s.shorts; longs = s.longs; coins = s.coins } };
+
+    ghost invariant = { λ s. IsStream (record { shorts = s.shorts; longs = s.longs; coins = s.coins }) };
+}
+
+impl Stream {
+    /// A stream with nothing to say. Takes no memory.
+    pub fn empty(alloc: Global) -> Stream
+        ensures { result ≡ record { shorts = []; longs = []; coins = [] } }
+    {
+        Stream {
+            shorts: Shorts::from_vec(Vec::new(alloc)),
+            longs: Longs::from_vec(Vec::new(alloc)),
+            coins: Bytes::from_vec(Vec::new(alloc)),
+        }
+    }
+
+    /// The stream with one more short. After want of memory it is gone.
+    pub fn with_short(self, value: Value) -> Result<Stream, NoMemory>
+        requires { length self.shorts < 4096 }
+        ensures { IfOk result (λ s. s ≡ record self { shorts = self.shorts ++ value ∷ [] }) }
+    {
+        let _ = value.number();
+        let Stream {
+            shorts,
+            longs,
+            coins,
+        } = self;
+        let mut items = shorts.into_vec();
+        items.push(value)?;
+        Ok(Stream {
+            shorts: Shorts::from_vec(items),
+            longs,
+            coins,
+        })
+    }
+
+    /// The stream with one more long. After want of memory it is gone.
+    pub fn with_long(self, message: Bytes) -> Result<Stream, NoMemory>
+        requires room { length self.longs < 256 }
+        requires message { length message ≤ 3838 }
+        ensures { IfOk result (λ s. s ≡ record self { longs = self.longs ++ message ∷ [] }) }
+    {
+        hold_bytes(message.as_slice());
+        let Stream {
+            shorts,
+            longs,
+            coins,
+        } = self;
+        let mut items = longs.into_vec();
+        items.push(message)?;
+        Ok(Stream {
+            shorts,
+            longs: Longs::from_vec(items),
+            coins,
+        })
+    }
+
+    /// The stream with one more coin. After want of memory it is gone.
+    pub fn with_coin(self, field: u8) -> Result<Stream, NoMemory>
+        requires room { length self.coins < 4096 }
+        requires field { field < 16 }
+        ensures { IfOk result (λ s. s ≡ record self { coins = self.coins ++ field ∷ [] }) }
+    {
+        let Stream {
+            shorts,
+            longs,
+            coins,
+        } = self;
+        let mut items = coins.into_vec();
+        items.push(field)?;
+        Ok(Stream {
+            shorts,
+            longs,
+            coins: Bytes::from_vec(items),
+        })
+    }
+
+    pub fn copy(&self, alloc: Global) -> Result<Stream, NoMemory>
+        ensures { IfOk result (λ s. s ≡ self.now) }
+    {
+        let shorts = self.shorts.copy(alloc)?;
+        let longs = self.longs.copy(alloc)?;
+        let coins = copy_of(alloc, &self.coins)?;
+        Ok(Stream {
+            shorts,
+            longs,
+            coins,
+        })
+    }
+}
+
+/// The items of a slice of bytes are bytes.
+fn hold_bytes(bytes: &[u8])
+    ensures { AreBytes bytes.now }
+{
+    let _ = bytes;
+}
