@@ -1,0 +1,93 @@
+-- A sender as the code keeps it: how much of its stream was used up before the cycle began, and what the cycle sent.
+use Rattle.std.specs.Prelude.{◌≡◌, ℕ, ◌+◌, ◌≤◌, Bool, true, false, ◌||◌, ◌&&◌, ◌==◌, if◌then◌else◌, List, [], ◌∷◌, ◌++◌, length, map, drop, nat_lt, Option, Some, None}
+use Rattle.std.specs.Str.{bytes_eq}
+use Rattle.dc_spec.specs.Words.{zero_word}
+use Rattle.dc_formats.specs.StreamFile.{IsStream}
+use Rattle.dc_protocol.specs.Net.{short, long, Stream}
+use Rattle.dc_protocol.specs.Values.{contended_word}
+use Rattle.dc_protocol.specs.Bursts.{fragment, fragment_count}
+use Rattle.dc_protocol.specs.Epochs.{Leaf, Epoch, calls}
+use Rattle.dc_protocol.specs.Stations.{coins_used, first_short, marked}
+use Rattle.dc_station.specs.declared.sender.Sender.{Sender}
+use Rattle.dc_station.specs.Logs.{Fits}
+
+-- what of the stream was pending when the cycle began
+abbrev pub left : Sender → Stream
+left sender = record { shorts = drop sender.shorts_used sender.stream.shorts; longs = drop sender.longs_used sender.stream.longs; coins = drop sender.coins_used sender.stream.coins }
+
+-- one where something is so
+abbrev pub one_if : Bool → ℕ
+one_if true = 1
+one_if false = 0
+
+-- the stream is within its limits, and no more is used up or sent than there is
+pub record IsUsable (sender : Sender) : Type 0 where
+  pub limits : IsStream sender.stream
+  pub shorts : sender.shorts_used + one_if sender.short_sent ≤ length sender.stream.shorts
+  pub longs : sender.longs_used + one_if sender.long_sent ≤ length sender.stream.longs
+  pub coins : sender.coins_used ≤ length sender.stream.coins
+
+-- a payload where something is so
+abbrev pub if_any : Bool → List ℕ → List (List ℕ)
+if_any so payload = if so then payload ∷ [] else []
+
+abbrev pub is_any : List (List ℕ) → Bool
+is_any [] = false
+is_any (payload ∷ payloads) = true
+
+-- whether a field is the marked one
+abbrev pub is_mark : ℕ → Option ℕ → Bool
+is_mark field None = false
+is_mark field (Some mark) = mark == field
+
+-- whether a message is the first of some
+abbrev pub is_first : List ℕ → List (List ℕ) → Bool
+is_first message [] = false
+is_first message (first ∷ longs) = bytes_eq message first
+
+-- the messages that a burst of this field sends by giving a message: one or none
+abbrev pub longs_of : Stream → ℕ → List ℕ → List (List ℕ)
+longs_of stream field message = if_any (is_mark field (marked stream) && is_first message stream.longs) message
+
+-- the values that leaves send, where the cycle sent one or not
+abbrev pub shorts_of : Bool → Stream → List Leaf → List (List ℕ)
+shorts_of true stream out = []
+shorts_of false stream out = first_short stream.shorts out
+
+-- these messages, one or none, are sent
+pub record SendsLong (old : Sender) (sends : List (List ℕ)) (new : Sender) : Type 0 where
+  pub usable : IsUsable new
+  pub same : left new ≡ left old
+  pub shorts : new.short_sent ≡ old.short_sent
+  pub longs : new.long_sent ≡ (old.long_sent || is_any sends)
+  pub room : new.log.room ≡ old.log.room
+  pub log : Fits (old.log.entries ++ map long sends) old.log.room → new.log.entries ≡ old.log.entries ++ map long sends
+
+-- these values, one or none, are sent
+pub record SendsShort (old : Sender) (sends : List (List ℕ)) (new : Sender) : Type 0 where
+  pub usable : IsUsable new
+  pub same : left new ≡ left old
+  pub longs : new.long_sent ≡ old.long_sent
+  pub shorts : new.short_sent ≡ (old.short_sent || is_any sends)
+  pub room : new.log.room ≡ old.log.room
+  pub log : Fits (old.log.entries ++ map (λ value. short value 1) sends) old.log.room → new.log.entries ≡ old.log.entries ++ map (λ value. short value 1) sends
+
+-- a stream without its first value or message, where they were sent, and without the coin that it marks
+abbrev pub less : Bool → Bool → Stream → Stream
+less short_sent long_sent stream = record { shorts = drop (one_if short_sent) stream.shorts; longs = drop (one_if long_sent) stream.longs; coins = drop (coins_used (marked stream)) stream.coins }
+
+-- a cycle is over
+pub record Ends (old : Sender) (new : Sender) : Type 0 where
+  pub usable : IsUsable new
+  pub remains : left new ≡ less old.short_sent old.long_sent (left old)
+  pub shorts : new.short_sent ≡ false
+  pub longs : new.long_sent ≡ false
+  pub log : new.log ≡ old.log
+
+-- fragment i of a message, and zeros after its last fragment
+abbrev pub fragment_word : List ℕ → ℕ → List ℕ
+fragment_word message i = if nat_lt i (fragment_count (length message)) then fragment message i else zero_word
+
+-- a value, where it is called for
+abbrev pub value_word : List ℕ → Epoch → List ℕ
+value_word value epoch = if calls value epoch then contended_word value 1 else zero_word

@@ -1,0 +1,12 @@
+//! Entries of a log, given out whole.
+
+use dc_field::{Bytes, Value};
+
+/// What came out of a session: contracts compare it with an entry of the definitions.
+#[derive(Debug, Drop)]
+pub enum Entry {
+    /// A value, and how many stations sent it.
+    Short { value: Value, times: u16 },
+    /// A message.
+    Long { bytes: Bytes },
+}
