@@ -1,0 +1,167 @@
+"""The kinds of the whole net: keys, forests, hubs, runs, twins, steerings."""
+
+from .kind import Kind, entry, listing, numbers, option, pair, stream, word, words
+
+
+def record(**fields):
+    """A record by its fields, each written as text already."""
+    return "(record { " + "; ".join(f"{name} = {value}" for name, value in fields.items()) + " })"
+
+
+def edges(items):
+    """A list of edges."""
+    return listing([pair(str(u), str(v)) for u, v in items])
+
+
+def flat_words(rounds):
+    """The words of all rounds in one list."""
+    return words([digits for items in rounds for digits in items])
+
+
+def key_pair(item):
+    """A pair with its pads."""
+    return record(u=item["u"], v=item["v"], a=numbers(item["a"]), b=numbers(item["b"]))
+
+
+def stations_and_words(items):
+    """A list of stations with a word each."""
+    return listing([pair(str(station), word(digits)) for station, digits in items])
+
+
+def turn(item):
+    """A round of a script."""
+    delivery = "all_sum" if item["each"] is None else f"(each {stations_and_words(item['each'])})"
+    return record(says=stations_and_words(item["says"]), delivery=delivery)
+
+
+def net(item):
+    """A net."""
+    keys = record(stations=item["stations"], words=item["words"], pairs=listing([key_pair(one) for one in item["keys"]]))
+    return record(
+        stations=item["stations"],
+        edges=edges(item["edges"]),
+        coalition=numbers(item["coalition"]),
+        keys=keys,
+        streams=listing([option(None if one is None else stream(one)) for one in item["streams"]]),
+        script=listing([turn(one) for one in item["script"]]),
+        words=item["words"],
+    )
+
+
+def keys(line):
+    """The key of one round."""
+    one = record(u=0, v=1, a=numbers(line["a"]), b=numbers(line["b"]))
+    return [f"key_word {one} (symbols {words(line['received'])}) {line['t']} ≡ {word(line['key'])}"]
+
+
+def forests(line):
+    """The parents, the parts, whether stations are joined, the sums below each station."""
+    graph = record(stations=line["stations"], edges=edges(line["edges"]), coalition=numbers(line["coalition"]))
+    parts = [numbers(one) for one in line["parts"]]
+    firsts = numbers([one[0] for one in line["parts"]])
+    roots = numbers([one[0] for one in line["parts"] for _ in one])
+    stations = numbers([station for one in line["parts"] for station in one])
+    return [
+        f"parents {graph} ≡ {listing([option(one) for one in line['parents']])}",
+        f"map (part {graph}) {firsts} ≡ {listing(parts)}",
+        f"map (root {graph}) {stations} ≡ {roots}",
+        f"below_sums {graph} {words(line['demands'])} ≡ {words(line['below_sums'])}",
+    ]
+
+
+def arrival(item):
+    """A word that came for a round."""
+    return record(station=item["station"], round=item["round"], word=word(item["word"]))
+
+
+def answer(item):
+    """The hub's answer to an arrival."""
+    if "complete" in item:
+        return f"(complete {word(item['complete'])})"
+    if "waiting" in item:
+        return f"(waiting {item['waiting']})"
+    name, *told = item["fault"].split()
+    if name == "repeated":
+        return f"(repeated {word(item['kept'])})"
+    number = told[0].split("=")[1] if told else ""
+    return {"over": "over", "station": f"(no_station {number})", "old": f"(old {number})", "ahead": f"(ahead {number})"}[name]
+
+
+def hubs(line):
+    """The hub's answers to all arrivals."""
+    arrivals = listing([arrival(one) for one in line["steps"]])
+    return [f"answers {line['stations']} {line['rounds']} {arrivals} ≡ {listing([answer(one) for one in line['steps']])}"]
+
+
+def runs(line):
+    """What the run of a net records."""
+    expected = record(
+        words=flat_words(line["words"]),
+        sums=words(line["sums"]),
+        delivered=flat_words(line["delivered"]),
+        logs=listing([listing([entry(one) for one in log]) for log in line["logs"]]),
+        sents=listing([listing([entry(one) for one in sent]) for sent in line["sents"]]),
+        pending=listing([pair(str(shorts), str(longs)) for shorts, longs in line["pending"]]),
+    )
+    return [f"run_of {net(line['net'])} ≡ {expected}"]
+
+
+def twins(line):
+    """The demands, what is added to the first pads of tree edges, and that the twin's words are those of the net."""
+    shifted = listing([record(u=u, v=v, words=words(added)) for u, v, added in line["shifts"]])
+    return [
+        f"demands {net(line['net'])} {numbers(line['perm'])} ≡ {listing([words(one) for one in line['demands']])}",
+        f"shifts {net(line['net'])} {numbers(line['perm'])} ≡ {shifted}",
+        f"(run_of (twin {net(line['net'])} {numbers(line['perm'])})).words ≡ (run_of {net(line['net'])}).words",
+    ]
+
+
+def steerings(line):
+    """Where two neighbours first differ, the changes of their pads, and that the steered net has the wanted sums after that."""
+    expected = record(round=line["round"], symbol=line["symbol"], first=numbers(line["first"]), second=numbers(line["second"]))
+    asked = f"{net(line['net'])} {line['u']} {line['v']} {words(line['wanted'])}"
+    return [
+        f"steering_of {asked} ≡ {expected}",
+        f"drop {line['round'] + 1} (run_of (steered_net {asked})).sums ≡ {words(line['wanted'])}",
+        f"take {line['round'] + 1} (run_of (steered_net {asked})).sums ≡ take {line['round'] + 1} (run_of {net(line['net'])}).sums",
+    ]
+
+
+PRELUDE = "use Rattle.std.specs.Prelude.{◌≡◌, refl, List, [], ◌∷◌, Some, None, map, take, drop}\n"
+WORDS = "use Rattle.dc_spec.specs.Words.{word_of}\n"
+HERE = "use Rattle.dc_protocol.specs."
+NETS = PRELUDE + "use Rattle.dc_protocol.proofs.Computing.{computing}\n" + HERE + "Net.{short, long, all_sum, each}\n" + HERE + "Runs.{rounds_of}\n"
+NET_WORDS = "computing rounds_of"
+
+KINDS = {
+    "keys": Kind("keys", PRELUDE + WORDS + HERE + "PairKeys.{key_word, symbols}", "word_of", keys, 30),
+    "forests": Kind(
+        "forests",
+        PRELUDE + WORDS + HERE + "Graphs.{reached, part}\n" + HERE + "Forests.{spreads, chain, root, parents, below_sums}",
+        "word_of reached spreads chain",
+        forests,
+        20,
+    ),
+    "hubs": Kind(
+        "hubs",
+        PRELUDE + WORDS + HERE + "Hubs.{answers, round_start, waiting, complete, no_station, over, old, ahead, repeated}",
+        "word_of round_start",
+        hubs,
+        20,
+    ),
+    "runs": Kind("runs", NETS + HERE + "Runs.{run_of}", NET_WORDS, runs, 2),
+    "twins": Kind(
+        "twins",
+        NETS + HERE + "Graphs.{reached}\n" + HERE + "Forests.{spreads, chain}\n" + HERE + "Twins.{demands, shifts, twin}\n" + HERE + "Runs.{run_of}",
+        NET_WORDS + " reached spreads chain",
+        twins,
+        2,
+    ),
+    "steerings": Kind(
+        "steerings",
+        NETS + HERE + "Steerings.{power_below, changes_up_to, steering_of, steered_net}\n" + HERE + "Runs.{run_of}",
+        NET_WORDS + " power_below changes_up_to",
+        steerings,
+        2,
+    ),
+}
