@@ -9,8 +9,9 @@ class Kind(NamedTuple):
     file: str  # the lines stand in FOLDER/file.jsonl
     uses: str  # the `use` lines of each lemma file
     unfolding: str  # the names after `unfolding`, or "" for no such line
-    claims: Callable[[dict], list]  # the statements of one line (as text); `refl` has to prove each
-    batch: int = 10  # how many lines stand in one lemma file
+    claims: Callable[[dict], list]  # the statements of one line (as text); `refl` has to prove each. None: no case of this kind
+    batch: int = 10  # how many cases stand in one lemma file
+    stands_on: tuple = ("dc_protocol",)  # the crates whose words the statements use
 
 
 def listing(items):
@@ -21,6 +22,11 @@ def listing(items):
 def pair(*items):
     """A tuple of terms."""
     return "(" + ", ".join(items) + ")"
+
+
+def record(**fields):
+    """A record by its fields, each written as text already."""
+    return "(record { " + "; ".join(f"{name} = {value}" for name, value in fields.items()) + " })"
 
 
 def numbers(items):
@@ -59,4 +65,15 @@ def stream(item):
     """A station's stream."""
     shorts = listing([byte_list(value) for value in item["shorts"]])
     longs = listing([byte_list(message) for message in item["longs"]])
-    return f"(record {{ shorts = {shorts}; longs = {longs}; coins = {numbers(item['coins'])} }})"
+    return record(shorts=shorts, longs=longs, coins=numbers(item["coins"]))
+
+
+def stations_and_words(items):
+    """A list of stations with a word each."""
+    return listing([pair(str(station), word(digits)) for station, digits in items])
+
+
+def turn(item):
+    """A round of a script."""
+    delivery = "all_sum" if item["each"] is None else f"(each {stations_and_words(item['each'])})"
+    return record(says=stations_and_words(item["says"]), delivery=delivery)

@@ -1,11 +1,6 @@
 """The kinds of the whole net: keys, forests, hubs, runs, twins, steerings."""
 
-from .kind import Kind, entry, listing, numbers, option, pair, stream, word, words
-
-
-def record(**fields):
-    """A record by its fields, each written as text already."""
-    return "(record { " + "; ".join(f"{name} = {value}" for name, value in fields.items()) + " })"
+from .kind import Kind, entry, listing, numbers, option, pair, record, stream, turn, word, words
 
 
 def edges(items):
@@ -21,17 +16,6 @@ def flat_words(rounds):
 def key_pair(item):
     """A pair with its pads."""
     return record(u=item["u"], v=item["v"], a=numbers(item["a"]), b=numbers(item["b"]))
-
-
-def stations_and_words(items):
-    """A list of stations with a word each."""
-    return listing([pair(str(station), word(digits)) for station, digits in items])
-
-
-def turn(item):
-    """A round of a script."""
-    delivery = "all_sum" if item["each"] is None else f"(each {stations_and_words(item['each'])})"
-    return record(says=stations_and_words(item["says"]), delivery=delivery)
 
 
 def net(item):
