@@ -1,44 +1,14 @@
 use super::*;
 use std::test::*;
 
-/// The number that hexadecimal digits spell.
-fn number(digits: &[u8]) -> u32 {
-    let mut number = 0u32;
-    for d in digits {
-        let digit = if *d < 58 {
-            d.wrapping_sub(48)
-        } else {
-            d.wrapping_sub(87)
-        };
-        number = number.wrapping_mul(16).wrapping_add(u32::from(digit));
-    }
-    number
-}
-
 /// The word of eighty digits.
-fn word(text: &str) -> Option<Word> {
-    let digits = text.as_bytes();
-    if digits.len() != 80 {
-        return None;
-    }
-    let mut w = Word::zero();
-    for l in 0..16 {
-        w.set(l, Sym::new(number(&digits[5 * l..5 * l + 5]))?);
-    }
-    Some(w)
+fn word(text: &str) -> Result<Word, Fail> {
+    Ok(read_word_text(text.as_bytes()).ok().ok_or("it is a word")?)
 }
 
-/// The value of thirty digits.
-fn value(text: &str) -> Option<Value> {
-    let digits = text.as_bytes();
-    if digits.len() != 30 {
-        return None;
-    }
-    let mut bytes = [0u8; 15];
-    for i in 0..15 {
-        bytes[i] = (number(&digits[2 * i..2 * i + 2]) % 256) as u8;
-    }
-    Some(Value { bytes })
+/// The group of eighty digits.
+fn group(text: &str) -> Result<Group, Fail> {
+    Ok(Group::of_word(&word(text)?).ok().ok_or("it is a group")?)
 }
 
 /// Whether a group has the count and the limbs of a word.
@@ -55,23 +25,18 @@ fn is_of(group: &Group, w: &Word) -> bool {
     true
 }
 
-/// A word that is to be a group of this total, mean and equal value.
+/// A word that is to be a group of this total, mean and number of its equal value.
 fn check_group(
     text: &str,
     total: u128,
     mean: Option<u128>,
-    equal: Option<&str>,
+    equal: Option<u128>,
 ) -> Result<(), Fail> {
-    let w = word(text).ok_or("it is a word")?;
-    let group = Group::of_word(&w).ok().ok_or("it is a group")?;
-    if !is_of(&group, &w) || group.total() != total || group.mean() != mean {
+    let group = group(text)?;
+    if !is_of(&group, &word(text)?) || group.total() != total || group.mean() != mean {
         return Err("another group")?;
     }
-    let due = match equal {
-        Some(digits) => value(digits),
-        None => None,
-    };
-    if group.equal_value() != due {
+    if group.equal_value().map(|v: Value| -> u128 { v.number() }) != equal {
         return Err("another equal value")?;
     }
     Ok(())
@@ -79,8 +44,7 @@ fn check_group(
 
 /// A word that is to be no group by this fault.
 fn check_fault(text: &str, due: BadGroup) -> Result<(), Fail> {
-    let w = word(text).ok_or("it is a word")?;
-    match Group::of_word(&w) {
+    match Group::of_word(&word(text)?) {
         Err(fault) if fault == due => Ok(()),
         _ => Err("another answer")?,
     }
@@ -88,13 +52,8 @@ fn check_fault(text: &str, due: BadGroup) -> Result<(), Fail> {
 
 /// A whole and a part, and what is to be left.
 fn check_rest(whole: &str, part: &str, rest: &str) -> Result<(), Fail> {
-    let whole = word(whole).ok_or("it is a word")?;
-    let part = word(part).ok_or("it is a word")?;
-    let due = word(rest).ok_or("it is a word")?;
-    let whole = Group::of_word(&whole).ok().ok_or("it is a group")?;
-    let part = Group::of_word(&part).ok().ok_or("it is a group")?;
-    let rest = whole.minus(&part).ok().ok_or("it is a part")?;
-    if is_of(&rest, &due) {
+    let left = group(whole)?.minus(&group(part)?).ok().ok_or("it is a part")?;
+    if is_of(&left, &word(rest)?) {
         Ok(())
     } else {
         Err("another rest")?
@@ -103,11 +62,7 @@ fn check_rest(whole: &str, part: &str, rest: &str) -> Result<(), Fail> {
 
 /// A whole and what is to be no part of it by this fault.
 fn check_unlike(whole: &str, part: &str, due: BadSplit) -> Result<(), Fail> {
-    let whole = word(whole).ok_or("it is a word")?;
-    let part = word(part).ok_or("it is a word")?;
-    let whole = Group::of_word(&whole).ok().ok_or("it is a group")?;
-    let part = Group::of_word(&part).ok().ok_or("it is a group")?;
-    match whole.minus(&part) {
+    match group(whole)?.minus(&group(part)?) {
         Err(fault) if fault == due => Ok(()),
         _ => Err("another answer")?,
     }
@@ -121,15 +76,17 @@ fn values(rt: HostRuntime) -> Result<(), Fail> {
         (0, Some(least)),
         (1329227995784915872903807060280344575, Some(greatest)),
         (1329227995784915872903807060280344576, None),
-        (258, value("000000000000000000000000000102")),
     ] {
         assert_eq!(rt; Value::of_number(x) == due, true, "at {x}");
     }
-    let short = value("010000000000000000000000000203").ok_or("it is a value")?;
+    let short = Value::of_number(5192296858534827628530496329220611).ok_or("it is a value")?;
+    assert_eq!(rt;
+        short.bytes.as_slice(),
+        [1, 0, 0, 0, 0, 0, 0, 0, 0, 0, 0, 0, 0, 2, 3].as_slice()
+    );
     assert_eq!(rt; short.number(), 5192296858534827628530496329220611);
-    let due = word(
-        "00100001000000000000000000000000000000000000000000000000000000000000000020000300",
-    ).ok_or("it is a word")?;
+    let due =
+        word("00100001000000000000000000000000000000000000000000000000000000000000000020000300")?;
     assert_eq!(rt;
         short.to_word(256).numbers().as_slice(),
         due.numbers().as_slice()
@@ -144,12 +101,6 @@ fn groups() -> Result<(), Fail> {
         3354252768120978868993767443340983954,
         Some(1118084256040326289664589147780327984),
         None,
-    )?;
-    check_group(
-        "0000100000000ff000ff000260000000000000170002e000110000000000000ff0009000056000ff",
-        5192229390803114169853614283052799,
-        Some(5192229390803114169853614283052799),
-        Some("00ffff260000172e110000ff9056ff"),
     )?;
     check_group(
         "001000a76d0ff0004c2605f26000000a66402ae800000000000000003d2d00000071df08bc704395",
@@ -168,7 +119,27 @@ fn groups() -> Result<(), Fail> {
         4109704546552162413301942605147996160,
         Some(821940909310432482660388521029599232),
         None,
+    )
+}
+
+#[test]
+fn groups_of_equal_values() -> Result<(), Fail> {
+    check_group(
+        "0000100000000ff000ff000260000000000000170002e000110000000000000ff0009000056000ff",
+        5192229390803114169853614283052799,
+        Some(5192229390803114169853614283052799),
+        Some(0x00ffff260000172e110000ff9056ff),
     )?;
+    check_group(
+        "00006005fa005fa005fa005fa005fa005fa005fa005fa005fa005fa005fa005fa005fa005fa005fa",
+        7975367974709495237422842361682067450,
+        Some(1329227995784915872903807060280344575),
+        Some(0xffffffffffffffffffffffffffffff),
+    )
+}
+
+#[test]
+fn words_that_are_no_groups() -> Result<(), Fail> {
     check_fault(
         "00001000ff0000000075000ff0010100000000d000000000ff000ff0003e000ff000ff000ff00000",
         BadGroup::Limb { l: 5, seen: 257 },
@@ -180,14 +151,7 @@ fn groups() -> Result<(), Fail> {
     check_fault(
         "00001000000005f100000000000000000d1000e3000af000ff000ce000ff00000000ff000bc000ff",
         BadGroup::Limb { l: 3, seen: 65536 },
-    )?;
-    check_group(
-        "00006005fa005fa005fa005fa005fa005fa005fa005fa005fa005fa005fa005fa005fa005fa005fa",
-        7975367974709495237422842361682067450,
-        Some(1329227995784915872903807060280344575),
-        Some("ffffffffffffffffffffffffffffff"),
-    )?;
-    Ok(())
+    )
 }
 
 #[test]
@@ -206,7 +170,11 @@ fn splits() -> Result<(), Fail> {
         "00007000000066500000006f90052700000006f900142006f9002350001000000003990046c00000",
         "0000200000001fd00000001fe0019d00000001fe000eb001fe0008e0000a00000001590018800000",
         "00005000000046800000004fb0038a00000004fb00057004fb001a7000060000000240002e400000",
-    )?;
+    )
+}
+
+#[test]
+fn groups_that_are_no_parts() -> Result<(), Fail> {
     check_unlike(
         "0000300000002fd002fd000cf002fd001bf000f100056002fd002fd00000002fd0000000000000d7",
         "00000000000000000000000000000000000000000000000000000000000000000000000000000000",
@@ -234,6 +202,5 @@ fn splits() -> Result<(), Fail> {
             whole: 65280,
             part: 4079,
         },
-    )?;
-    Ok(())
+    )
 }

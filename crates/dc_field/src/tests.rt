@@ -26,16 +26,25 @@ fn symbols(rt: HostRuntime) {
             "at {x}"
         );
     }
-    for (x, y, due) in [
-        (65536, 1, 0),
-        (65536, 65536, 65535),
-        (40000, 30000, 4463),
-        (0, 0, 0),
+}
+
+#[test]
+fn symbols_are_reckoned_with(rt: HostRuntime) -> Result<(), Fail> {
+    for (x, y, sum, difference, product) in [
+        (65536, 1, 0, 65535, 65536),
+        (65536, 65536, 65535, 0, 1),
+        (40000, 30000, 4463, 10000, 17530),
+        (2, 7, 9, 65532, 14),
+        (0, 0, 0, 0, 0),
     ] {
-        if let (Some(x), Some(y)) = (Sym::new(x), Sym::new(y)) {
-            assert_eq!(rt; x.add(y).number(), due);
-        }
+        let x = Sym::new(x).ok_or("it is a symbol")?;
+        let y = Sym::new(y).ok_or("it is a symbol")?;
+        assert_eq!(rt; x.add(y).number(), sum);
+        assert_eq!(rt; x.sub(y).number(), difference);
+        assert_eq!(rt; y.neg().add(x).number(), difference);
+        assert_eq!(rt; x.mul(y).number(), product);
     }
+    Ok(())
 }
 
 #[test]
@@ -138,6 +147,8 @@ fn words_are_added(rt: HostRuntime) -> Result<(), Fail> {
         [65534; 16].as_slice()
     );
     assert_eq!(rt; Word::sum(&[]).get(7).number(), 0);
+    assert_eq!(rt; one.sub(&greatest).numbers().as_slice(), [2; 16].as_slice());
+    assert_eq!(rt; greatest.sub(&one).numbers().as_slice(), [65535; 16].as_slice());
     Ok(())
 }
 

@@ -142,3 +142,11 @@ fn reduced(totals: &[u32; 16]) -> Word
     }
     Word { symbols }
 }
+
+/// Asks of a value that it may be sent to another thread and shared with it.
+fn needs_threads<T: Send + Sync>(_value: &T) {}
+
+/// A word may be sent to another thread and shared with it.
+fn word_meets_threads(w: &Word) {
+    needs_threads(w);
+}
