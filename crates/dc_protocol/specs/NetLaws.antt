@@ -51,6 +51,11 @@ abbrev pub ComputedChangesSteer : Type 0
 ComputedChangesSteer = (cu cv e : List ℕ) (count : ℕ) → AreSymbols cu → AreSymbols cv → AreSymbols e → slice_index cu (first_difference cu cv) ≢ slice_index cv (first_difference cu cv) →
     (let y = second_changes cu cv e count in IsSteering cu cv e count (first_changes cu y count) y)
 
+-- and they are the only one: what is asked of a steering fixes each change
+abbrev pub SteeringsAreComputed : Type 0
+SteeringsAreComputed = (cu cv e : List ℕ) (count : ℕ) → AreSymbols cu → AreSymbols cv → AreSymbols e → slice_index cu (first_difference cu cv) ≢ slice_index cv (first_difference cu cv) → (x y : List ℕ) → IsSteering cu cv e count x y →
+    (y ≡ second_changes cu cv e count) × (x ≡ first_changes cu (second_changes cu cv e count) count)
+
 -- two lists of arrivals that are rearrangements of each other, with no arrival refused in either, give the same broadcasts
 abbrev pub BroadcastsAgree : Type 0
 BroadcastsAgree = (n rounds : ℕ) (xs ys : List Arrival) → IsPermutation xs ys → AreAllTaken n rounds xs → AreAllTaken n rounds ys → (t : ℕ) → broadcast n xs t ≡ broadcast n ys t

@@ -1,5 +1,5 @@
 //! Laws of the net's definitions. Each function does nothing; its contract is the law.
-ghost use Rattle.dc_protocol.specs.NetLaws.{JoinedByWalks, DistanceIsLeast, RootIsLeast, ParentsAreLeastNearer, SumsMeetDemands, RootSumIsPartSum, InverseInverts, ComputedChangesSteer, BroadcastsAgree, SumsAreAlike, KeysCancel};
+ghost use Rattle.dc_protocol.specs.NetLaws.{JoinedByWalks, DistanceIsLeast, RootIsLeast, ParentsAreLeastNearer, SumsMeetDemands, RootSumIsPartSum, InverseInverts, ComputedChangesSteer, SteeringsAreComputed, BroadcastsAgree, SumsAreAlike, KeysCancel};
 
 /// Stations that are joined as it is computed are those that a walk along honest edges joins.
 pub fn joined_by_walks()
@@ -41,6 +41,12 @@ pub fn inverse_inverts()
 /// smaller end as they are.
 pub fn computed_changes_steer()
     ensures { ComputedChangesSteer }
+{}
+
+/// No other changes of pads are a steering.
+#[tactic(auto, using(crate::proofs::OneSteering::steering_is_computed))]
+pub fn steerings_are_computed()
+    ensures { SteeringsAreComputed }
 {}
 
 /// The order in which a hub's arrivals come changes no broadcast, where none is refused.
