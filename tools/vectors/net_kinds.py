@@ -96,7 +96,7 @@ def hubs(line):
 
 
 def runs(line):
-    """What the run of a net records."""
+    """What the run of a net records, and whether all honest stations received alike."""
     expected = record(
         words=flat_words(line["words"]),
         sums=words(line["sums"]),
@@ -105,7 +105,8 @@ def runs(line):
         sents=listing([listing([entry(one) for one in sent]) for sent in line["sents"]]),
         pending=listing([pair(str(shorts), str(longs)) for shorts, longs in line["pending"]]),
     )
-    return [f"run_of {net(line['net'])} ≡ {expected}"]
+    alike = "true" if all(len(set(got)) < 2 for got in line["delivered"]) else "false"
+    return [f"run_of {net(line['net'])} ≡ {expected}", f"is_alike {net(line['net'])} ≡ {alike}"]
 
 
 def twin_net(line):
@@ -122,12 +123,11 @@ def twin_net(line):
 
 
 def twins(line):
-    """Each station is joined with its image; the demands, what is added to the first pads of tree edges, the twin, and that its words are those of the net."""
+    """The permutation is admitted; the demands, what is added to the first pads of tree edges, the twin, and that its words are those of the net."""
     shifted = listing([record(u=u, v=v, words=words(added)) for u, v, added in line["shifts"]])
     first, images = net(line["net"]), numbers(line["perm"])
-    stations = line["net"]["stations"]
     return [
-        f"map (λ i. is_joined (key_graph {first}) i (slice_index {images} i)) (range_with_len 0 {stations}) ≡ {listing(['true'] * stations)}",
+        f"admits {first} {images} ≡ true",
         f"demands {first} {images} ≡ {listing([words(one) for one in line['demands']])}",
         f"shifts {first} {images} ≡ {shifted}",
         f"twin {first} {images} ≡ {twin_net(line)}",
@@ -146,7 +146,7 @@ def steerings(line):
     ]
 
 
-PRELUDE = "use Rattle.std.specs.Prelude.{◌≡◌, refl, List, [], ◌∷◌, Some, None, map, take, drop, slice_index, true, false}\n"
+PRELUDE = "use Rattle.std.specs.Prelude.{◌≡◌, refl, List, [], ◌∷◌, Some, None, map, take, drop, true, false}\n"
 RANGE = "use Rattle.std.specs.List.{range_with_len}\n"
 WORDS = "use Rattle.dc_spec.specs.Words.{word_of}\n"
 HERE = "use Rattle.dc_protocol.specs."
@@ -169,10 +169,10 @@ KINDS = {
         hubs,
         20,
     ),
-    "runs": Kind("runs", NETS + HERE + "Runs.{run_of}", NET_WORDS, runs, 2),
+    "runs": Kind("runs", NETS + HERE + "Runs.{run_of, is_alike}", NET_WORDS, runs, 2),
     "twins": Kind(
         "twins",
-        NETS + RANGE + HERE + "Graphs.{reached, key_graph, is_joined}\n" + HERE + "Forests.{spreads, chain}\n" + HERE + "Twins.{demands, shifts, twin}\n" + HERE + "Runs.{run_of}",
+        NETS + HERE + "Graphs.{reached}\n" + HERE + "Forests.{spreads, chain}\n" + HERE + "Twins.{admits, demands, shifts, twin}\n" + HERE + "Runs.{run_of}",
         NET_WORDS + " reached spreads chain",
         twins,
         2,

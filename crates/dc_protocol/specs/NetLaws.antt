@@ -2,12 +2,13 @@
 use Rattle.std.specs.Prelude.{ℕ, ◌+◌, ◌<◌, ◌≤◌, Some, None, ◌≡◌, ◌≢◌, ◌*◌, ◌%◌, ◌↔◌, IsTrue, List, map, slice_index, slice_index_or, IsPermutation, All}
 use Rattle.std.specs.List.{range_with_len}
 use Rattle.dc_spec.specs.Words.{IsSymbol, IsWord, zero_word, word_sub, word_sum}
-use Rattle.dc_protocol.specs.Graphs.{KeyGraph, IsKeyGraph, are_neighbours, AreJoined, part, is_joined}
+use Rattle.dc_protocol.specs.Graphs.{KeyGraph, IsKeyGraph, key_graph, are_neighbours, AreJoined, part, is_joined}
 use Rattle.dc_protocol.specs.Forests.{IsDistance, distance, root, parent, parents, children, below_sum}
 use Rattle.dc_protocol.specs.Hubs.{Arrival, AreAllTaken, broadcast}
 use Rattle.dc_protocol.specs.Net.{Pair, Net}
 use Rattle.dc_protocol.specs.PairKeys.{key_part}
-use Rattle.dc_protocol.specs.Runs.{DeliversSums, IsAlike}
+use Rattle.dc_protocol.specs.Runs.{DeliversSums, IsAlike, is_alike}
+use Rattle.dc_protocol.specs.Twins.{Admits, admits}
 use Rattle.dc_protocol.specs.Steerings.{AreSymbols, symbol_inverse, first_difference, first_changes, second_changes, IsSteering}
 
 -- whether two stations are joined, as it is computed, says whether a walk leads from one to the other
@@ -63,6 +64,14 @@ BroadcastsAgree = (n rounds : ℕ) (xs ys : List Arrival) → IsPermutation xs y
 -- where every delivery is the sum, all honest stations receive alike
 abbrev pub SumsAreAlike : Type 0
 SumsAreAlike = (net : Net) → DeliversSums net → IsAlike net
+
+-- whether a run is alike, as it is computed, says whether all honest stations received alike
+abbrev pub AlikeAsComputed : Type 0
+AlikeAsComputed = (net : Net) → IsTrue (is_alike net) ↔ IsAlike net
+
+-- whether a net admits a permutation, as it is computed, says whether it does
+abbrev pub AdmitsAsComputed : Type 0
+AdmitsAsComputed = (net : Net) (p : List ℕ) → IsKeyGraph (key_graph net) → IsTrue (admits net p) ↔ Admits net p
 
 -- where all stations have one history, the keys in their words cancel
 abbrev pub KeysCancel : Type 0
