@@ -39,16 +39,18 @@ def keys(line):
 
 
 def forests(line):
-    """The parents, the parts, whether stations are joined, the sums below each station."""
+    """The parents, the parts, the root of each station, which stations are joined with the first of a part, the sums below each station."""
     graph = record(stations=line["stations"], edges=edges(line["edges"]), coalition=numbers(line["coalition"]))
     parts = [numbers(one) for one in line["parts"]]
     firsts = numbers([one[0] for one in line["parts"]])
     roots = numbers([one[0] for one in line["parts"] for _ in one])
     stations = numbers([station for one in line["parts"] for station in one])
+    joined = [listing(["true" if v in one else "false" for v in range(line["stations"])]) for one in line["parts"]]
     return [
         f"parents {graph} ≡ {listing([option(one) for one in line['parents']])}",
         f"map (part {graph}) {firsts} ≡ {listing(parts)}",
         f"map (root {graph}) {stations} ≡ {roots}",
+        f"map (λ u. map (is_joined {graph} u) (range_with_len 0 {line['stations']})) {firsts} ≡ {listing(joined)}",
         f"below_sums {graph} {words(line['demands'])} ≡ {words(line['below_sums'])}",
     ]
 
@@ -78,7 +80,7 @@ def hubs(line):
 
 
 def runs(line):
-    """What the run of a net records."""
+    """What the run of a net records, and whether all honest stations received alike."""
     expected = record(
         words=flat_words(line["words"]),
         sums=words(line["sums"]),
@@ -87,16 +89,33 @@ def runs(line):
         sents=listing([listing([entry(one) for one in sent]) for sent in line["sents"]]),
         pending=listing([pair(str(shorts), str(longs)) for shorts, longs in line["pending"]]),
     )
-    return [f"run_of {net(line['net'])} ≡ {expected}"]
+    alike = "true" if all(len(set(got)) < 2 for got in line["delivered"]) else "false"
+    return [f"run_of {net(line['net'])} ≡ {expected}", f"is_alike {net(line['net'])} ≡ {alike}"]
+
+
+def twin_net(line):
+    """The twin: station p(i) has the stream of station i, and each shift is added to the first pads of its pair."""
+    added = {(u, v): [int(digits[at : at + 5], 16) for digits in shift for at in range(0, 80, 5)] for u, v, shift in line["shifts"]}
+    pairs = []
+    for one in line["net"]["keys"]:
+        change = added.get((one["u"], one["v"]), [0] * len(one["a"]))
+        pairs.append({**one, "a": [(old + more) % 65537 for old, more in zip(one["a"], change)]})
+    streams = [None] * line["net"]["stations"]
+    for station, image in enumerate(line["perm"]):
+        streams[image] = line["net"]["streams"][station]
+    return net({**line["net"], "keys": pairs, "streams": streams})
 
 
 def twins(line):
-    """The demands, what is added to the first pads of tree edges, and that the twin's words are those of the net."""
+    """The permutation is admitted; the demands, what is added to the first pads of tree edges, the twin, and that its words are those of the net."""
     shifted = listing([record(u=u, v=v, words=words(added)) for u, v, added in line["shifts"]])
+    first, images = net(line["net"]), numbers(line["perm"])
     return [
-        f"demands {net(line['net'])} {numbers(line['perm'])} ≡ {listing([words(one) for one in line['demands']])}",
-        f"shifts {net(line['net'])} {numbers(line['perm'])} ≡ {shifted}",
-        f"(run_of (twin {net(line['net'])} {numbers(line['perm'])})).words ≡ (run_of {net(line['net'])}).words",
+        f"admits {first} {images} ≡ true",
+        f"demands {first} {images} ≡ {listing([words(one) for one in line['demands']])}",
+        f"shifts {first} {images} ≡ {shifted}",
+        f"twin {first} {images} ≡ {twin_net(line)}",
+        f"(run_of {twin_net(line)}).words ≡ (run_of {first}).words",
     ]
 
 
@@ -111,7 +130,8 @@ def steerings(line):
     ]
 
 
-PRELUDE = "use Rattle.std.specs.Prelude.{◌≡◌, refl, List, [], ◌∷◌, Some, None, map, take, drop}\n"
+PRELUDE = "use Rattle.std.specs.Prelude.{◌≡◌, refl, List, [], ◌∷◌, Some, None, map, take, drop, true, false}\n"
+RANGE = "use Rattle.std.specs.List.{range_with_len}\n"
 WORDS = "use Rattle.dc_spec.specs.Words.{word_of}\n"
 HERE = "use Rattle.dc_protocol.specs."
 NETS = PRELUDE + "use Rattle.dc_protocol.proofs.Computing.{computing}\n" + HERE + "Net.{short, long, all_sum, each}\n" + HERE + "Runs.{rounds_of}\n"
@@ -121,7 +141,7 @@ KINDS = {
     "keys": Kind("keys", PRELUDE + WORDS + HERE + "PairKeys.{key_word, symbols}", "word_of", keys, 30),
     "forests": Kind(
         "forests",
-        PRELUDE + WORDS + HERE + "Graphs.{reached, part}\n" + HERE + "Forests.{spreads, chain, root, parents, below_sums}",
+        PRELUDE + WORDS + RANGE + HERE + "Graphs.{reached, part, is_joined}\n" + HERE + "Forests.{spreads, chain, root, parents, below_sums}",
         "word_of reached spreads chain",
         forests,
         20,
@@ -133,10 +153,10 @@ KINDS = {
         hubs,
         20,
     ),
-    "runs": Kind("runs", NETS + HERE + "Runs.{run_of}", NET_WORDS, runs, 2),
+    "runs": Kind("runs", NETS + HERE + "Runs.{run_of, is_alike}", NET_WORDS, runs, 2),
     "twins": Kind(
         "twins",
-        NETS + HERE + "Graphs.{reached}\n" + HERE + "Forests.{spreads, chain}\n" + HERE + "Twins.{demands, shifts, twin}\n" + HERE + "Runs.{run_of}",
+        NETS + HERE + "Graphs.{reached}\n" + HERE + "Forests.{spreads, chain}\n" + HERE + "Twins.{admits, demands, shifts, twin}\n" + HERE + "Runs.{run_of}",
         NET_WORDS + " reached spreads chain",
         twins,
         2,

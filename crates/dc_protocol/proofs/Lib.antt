@@ -6,6 +6,8 @@ pub mod SumLemmas
 pub mod ForestLemmas
 pub mod InverseLemmas
 pub mod SteeringLemmas
+pub mod OneSteering
+pub mod Admitting
 pub mod HubLemmas
 pub mod DistanceLemmas
 pub mod ParentLemmas

@@ -64,7 +64,7 @@ no_change_past : (cu cv e : List ℕ) (count j : ℕ) → count ≤ j → slice_
 no_change_past cu cv e count j high = let known = length-changes cu cv e count count in get_or-eq_default (second_changes cu cv e count) 0 (omega arith)
 
 -- a number is below the count or not
-below_or_past : (j count : ℕ) → (j < count) ⊎ (count ≤ j)
+pub below_or_past : (j count : ℕ) → (j < count) ⊎ (count ≤ j)
 below_or_past j count = elim (cases_Bool (nat_lt j count)) [ inl low ↦ inl (ltb-true j count low) | inr high ↦ inr (ltb-false j count high) ]
 
 -- the changes are 0 where they reach no symbol after the first difference's round
@@ -100,11 +100,11 @@ no_difference cu cv k good low =
     self_sub x low = omega arith
 
 -- other symbols have a difference that is not 0
-some_difference : (x y : ℕ) → x < 65537 → y < 65537 → x ≢ y → 0 < symbol_sub x y
+pub some_difference : (x y : ℕ) → x < 65537 → y < 65537 → x ≢ y → 0 < symbol_sub x y
 some_difference x y low_x low_y other = omega arith
 
 -- a difference is a symbol
-symbol-below : (x y : ℕ) → symbol_sub x y < 65537
+pub symbol-below : (x y : ℕ) → symbol_sub x y < 65537
 symbol-below x y = omega arith
 
 -- a quotient times its divisor is what was divided
@@ -122,7 +122,7 @@ made_up : (a x e : ℕ) → e < 65537 → x % 65537 ≡ symbol_sub e (a % 65537)
 made_up a x e low is = omega arith
 
 -- at one difference the change of a place counts in full, at every other as the known changes say
-split_at : (cu cv y known : List ℕ) (n j k : ℕ) → AreSymbols cu → j + first_difference cu cv ≡ n → k ≤ n → length known ≡ j → ((i : ℕ) → i < j → slice_index y i ≡ slice_index known i) →
+pub split_at : (cu cv y known : List ℕ) (n j k : ℕ) → AreSymbols cu → j + first_difference cu cv ≡ n → k ≤ n → length known ≡ j → ((i : ℕ) → i < j → slice_index y i ≡ slice_index known i) →
     slice_index y (n - k) * difference_at cu cv k ≡ slice_index known (n - k) * difference_at cu cv k + cond (nat_eq k (first_difference cu cv)) (slice_index y j * difference_at cu cv (first_difference cu cv)) 0
 split_at cu cv y known n j k good is within count same =
     let p = first_difference cu cv in
@@ -147,11 +147,11 @@ split_at cu cv y known n j k good is within count same =
     ]
 
 -- the numbers of symbols before the round of a steered symbol include that of the first difference
-in_reach : (p n : ℕ) → steered_from p ≤ n → p < 16 * (n / 16)
+pub in_reach : (p n : ℕ) → steered_from p ≤ n → p < 16 * (n / 16)
 in_reach p n from = omega arith
 
 -- and they are all below that of the symbol
-before_round : (n k : ℕ) → k < 0 + 16 * (n / 16) → k ≤ n
+pub before_round : (n k : ℕ) → k < 0 + 16 * (n / 16) → k ≤ n
 before_round n k low = omega arith
 
 -- the computed changes give each steered symbol its wanted change

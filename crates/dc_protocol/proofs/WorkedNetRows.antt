@@ -1,5 +1,5 @@
 -- The definitions of the net on worked examples.
-use Rattle.std.proofs.Common.{◌≡◌, ℕ, ◌+◌, List, [], ◌∷◌, map, replicate, slice_set, sum_by, Option, Some, None, refl, if◌then◌else◌, ◌==◌, ◌*◌, ◌%◌, false}
+use Rattle.std.proofs.Common.{◌≡◌, ℕ, ◌+◌, List, [], ◌∷◌, map, replicate, slice_set, sum_by, Option, Some, None, refl, if◌then◌else◌, ◌==◌, ◌*◌, ◌%◌, true, false}
 use Rattle.std.specs.List.{range_with_len}
 use Rattle.dc_spec.specs.Words.{word_of, zero_word}
 use Rattle.dc_protocol.specs.Net.{Entry, short, long, Stream, all_sum, each, Turn, Pair, Net, Run}
@@ -8,11 +8,11 @@ use Rattle.dc_protocol.specs.Graphs.{reached, key_graph, is_joined}
 use Rattle.dc_protocol.specs.Forests.{distance, spreads, chain, parents}
 use Rattle.dc_protocol.specs.PairKeys.{key_word, symbols}
 use Rattle.dc_protocol.specs.Hubs.{Arrival, waiting, complete, no_station, over, old, ahead, repeated, answers, round_start}
-use Rattle.dc_protocol.specs.Runs.{rounds_of, run_of}
+use Rattle.dc_protocol.specs.Runs.{rounds_of, run_of, is_alike}
 use Rattle.dc_protocol.specs.Steerings.{power_below, changes_up_to, first_difference, steering_of, steered_net}
 use Rattle.dc_protocol.specs.Bags.{value, text, count_in}
 use Rattle.dc_protocol.specs.SessionTexts.{hello, send, says}
-use Rattle.dc_protocol.specs.Twins.{inverse, shifts, twin}
+use Rattle.dc_protocol.specs.Twins.{admits, inverse, shifts, twin}
 
 -- a word with this count and this last limb, zeros between
 abbrev pub counted : ℕ → ℕ → List ℕ
@@ -97,6 +97,16 @@ sums_of_ring = refl
 shifts_of_ring : shifts ring exchange ≡ record { u = 0; v = 1; words = zero_word ∷ counted 0 65533 ∷ counted 1 5 ∷ zero_word ∷ [] } ∷ record { u = 1; v = 2; words = zero_word ∷ counted 0 65533 ∷ counted 1 5 ∷ zero_word ∷ [] } ∷ []
 unfolding computing rounds_of reached spreads chain
 shifts_of_ring = refl
+
+-- the stations 0 and 2 are in one part, so exchanging them is admitted; the member stays in place, and no station stands twice
+admitted_in_ring : map (admits ring) (exchange ∷ (3 ∷ 1 ∷ 2 ∷ 0 ∷ []) ∷ (0 ∷ 1 ∷ 1 ∷ 3 ∷ []) ∷ (0 ∷ 1 ∷ 2 ∷ []) ∷ []) ≡ true ∷ false ∷ false ∷ false ∷ []
+unfolding reached
+admitted_in_ring = refl
+
+-- all honest stations of the ring receive the sums
+ring_is_alike : is_alike ring ≡ true
+unfolding computing rounds_of
+ring_is_alike = refl
 
 -- the twin's words are those of the net
 words_of_twin : (run_of (twin ring exchange)).words ≡ (run_of ring).words
@@ -213,6 +223,11 @@ dealt_values = record split_pair { streams = of_values (small 5 ∷ []) ∷ of_v
 run_of_dealt_values : outcome (run_of dealt_values) ≡ (zero_word ∷ counted 2 10 ∷ [], (short (small 5) 1 ∷ []) ∷ (short (small 6) 1 ∷ []) ∷ [], (short (small 5) 1 ∷ []) ∷ [] ∷ [], (0, 0) ∷ (1, 0) ∷ [])
 unfolding computing rounds_of
 run_of_dealt_values = refl
+
+-- so the two do not receive alike
+dealt_values_differ : is_alike dealt_values ≡ false
+unfolding computing rounds_of
+dealt_values_differ = refl
 
 -- the received words, round by round and station by station
 delivered_values : (run_of dealt_values).delivered ≡ zero_word ∷ zero_word ∷ counted 1 5 ∷ counted 1 6 ∷ []

@@ -2,12 +2,13 @@
 use Rattle.std.specs.Prelude.{ℕ, ◌+◌, ◌<◌, ◌≤◌, Some, None, ◌≡◌, ◌≢◌, ◌*◌, ◌%◌, ◌↔◌, IsTrue, List, map, slice_index, slice_index_or, IsPermutation, All}
 use Rattle.std.specs.List.{range_with_len}
 use Rattle.dc_spec.specs.Words.{IsSymbol, IsWord, zero_word, word_sub, word_sum}
-use Rattle.dc_protocol.specs.Graphs.{KeyGraph, IsKeyGraph, are_neighbours, AreJoined, part, is_joined}
+use Rattle.dc_protocol.specs.Graphs.{KeyGraph, IsKeyGraph, key_graph, are_neighbours, AreJoined, part, is_joined}
 use Rattle.dc_protocol.specs.Forests.{IsDistance, distance, root, parent, parents, children, below_sum}
 use Rattle.dc_protocol.specs.Hubs.{Arrival, AreAllTaken, broadcast}
 use Rattle.dc_protocol.specs.Net.{Pair, Net}
 use Rattle.dc_protocol.specs.PairKeys.{key_part}
-use Rattle.dc_protocol.specs.Runs.{DeliversSums, IsAlike}
+use Rattle.dc_protocol.specs.Runs.{DeliversSums, IsAlike, is_alike}
+use Rattle.dc_protocol.specs.Twins.{Admits, admits}
 use Rattle.dc_protocol.specs.Steerings.{AreSymbols, symbol_inverse, first_difference, first_changes, second_changes, IsSteering}
 
 -- whether two stations are joined, as it is computed, says whether a walk leads from one to the other
@@ -51,6 +52,11 @@ abbrev pub ComputedChangesSteer : Type 0
 ComputedChangesSteer = (cu cv e : List ℕ) (count : ℕ) → AreSymbols cu → AreSymbols cv → AreSymbols e → slice_index cu (first_difference cu cv) ≢ slice_index cv (first_difference cu cv) →
     (let y = second_changes cu cv e count in IsSteering cu cv e count (first_changes cu y count) y)
 
+-- and they are the only one: what is asked of a steering fixes each change
+abbrev pub SteeringsAreComputed : Type 0
+SteeringsAreComputed = (cu cv e : List ℕ) (count : ℕ) → AreSymbols cu → AreSymbols cv → AreSymbols e → slice_index cu (first_difference cu cv) ≢ slice_index cv (first_difference cu cv) → (x y : List ℕ) → IsSteering cu cv e count x y →
+    (y ≡ second_changes cu cv e count) × (x ≡ first_changes cu (second_changes cu cv e count) count)
+
 -- two lists of arrivals that are rearrangements of each other, with no arrival refused in either, give the same broadcasts
 abbrev pub BroadcastsAgree : Type 0
 BroadcastsAgree = (n rounds : ℕ) (xs ys : List Arrival) → IsPermutation xs ys → AreAllTaken n rounds xs → AreAllTaken n rounds ys → (t : ℕ) → broadcast n xs t ≡ broadcast n ys t
@@ -58,6 +64,14 @@ BroadcastsAgree = (n rounds : ℕ) (xs ys : List Arrival) → IsPermutation xs y
 -- where every delivery is the sum, all honest stations receive alike
 abbrev pub SumsAreAlike : Type 0
 SumsAreAlike = (net : Net) → DeliversSums net → IsAlike net
+
+-- whether a run is alike, as it is computed, says whether all honest stations received alike
+abbrev pub AlikeAsComputed : Type 0
+AlikeAsComputed = (net : Net) → IsTrue (is_alike net) ↔ IsAlike net
+
+-- whether a net admits a permutation, as it is computed, says whether it does
+abbrev pub AdmitsAsComputed : Type 0
+AdmitsAsComputed = (net : Net) (p : List ℕ) → IsKeyGraph (key_graph net) → IsTrue (admits net p) ↔ Admits net p
 
 -- where all stations have one history, the keys in their words cancel
 abbrev pub KeysCancel : Type 0

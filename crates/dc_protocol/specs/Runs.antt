@@ -1,6 +1,7 @@
 -- The run of a net: round after round the words of all stations, their sum, and what each station receives.
-use Rattle.std.specs.Prelude.{ℕ, zero, suc, ◌≡◌, ◌==◌, not, if◌then◌else◌, List, [], ◌∷◌, ◌++◌, length, map, filter, find, flat_map, slice_index_or, None, unwrap_or, IsTrue, All}
-use Rattle.std.specs.List.{range_with_len}
+use Rattle.std.specs.Prelude.{ℕ, zero, suc, ◌≡◌, ◌==◌, not, if◌then◌else◌, List, [], ◌∷◌, ◌++◌, length, map, filter, find, flat_map, slice_index_or, None, unwrap_or, IsTrue, All, Bool}
+use Rattle.std.specs.List.{range_with_len, list_all}
+use Rattle.std.specs.Str.{bytes_eq}
 use Rattle.std.specs.Option.{option_map_or}
 use Rattle.dc_spec.specs.Words.{zero_word, word_add, word_sum}
 use Rattle.dc_protocol.specs.Net.{Stream, Delivery, all_sum, each, Turn, Pair, Net, Run}
@@ -95,6 +96,14 @@ IsAlikeIn net round = (i j : ℕ) → IsHonest net i → IsHonest net j → word
 -- they did in each round
 abbrev pub IsAlike : Net → Type 0
 IsAlike net = All (IsAlikeIn net) (all_rounds net)
+
+-- whether all honest stations received one and the same word in a round
+abbrev pub is_alike_in : Net → Round → Bool
+is_alike_in net round = list_all (λ i. list_all (λ j. bytes_eq (word_at round.received i) (word_at round.received j)) (honest_stations net)) (honest_stations net)
+
+-- whether they did in each round
+abbrev pub is_alike : Net → Bool
+is_alike net = list_all (is_alike_in net) (all_rounds net)
 
 -- each delivery of the script is the sum
 abbrev pub DeliversSums : Net → Type 0

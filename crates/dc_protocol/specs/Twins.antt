@@ -1,10 +1,10 @@
 -- The twin of a net: its streams are permuted, and the first pads of tree edges are shifted, so that no word changes where all honest stations receive alike.
-use Rattle.std.specs.Prelude.{ℕ, ◌<◌, ◌≡◌, ◌≢◌, ◌==◌, ◌&&◌, if◌then◌else◌, List, length, map, find, filter_map, take, slice_index, slice_index_or, nat_eq, Option, Some, None, option_map, All, AllPairs}
-use Rattle.std.specs.List.{range_with_len, position_or_len}
+use Rattle.std.specs.Prelude.{ℕ, ◌<◌, ◌≡◌, ◌≢◌, ◌==◌, ◌&&◌, if◌then◌else◌, not, true, nat_lt, Bool, List, [], ◌∷◌, length, map, find, filter_map, take, slice_index, slice_index_or, nat_eq, Option, Some, None, option_map, All, AllPairs}
+use Rattle.std.specs.List.{range_with_len, list_all, position_or_len}
 use Rattle.std.specs.Option.{option_map_or}
 use Rattle.dc_spec.specs.Words.{zero_word, word_sub}
 use Rattle.dc_protocol.specs.Net.{Pair, Net}
-use Rattle.dc_protocol.specs.Graphs.{key_graph, AreJoined}
+use Rattle.dc_protocol.specs.Graphs.{key_graph, AreJoined, is_among, is_joined}
 use Rattle.dc_protocol.specs.Forests.{is_parent, parents, below_sums}
 use Rattle.dc_protocol.specs.PairKeys.{symbols, pads_add}
 use Rattle.dc_protocol.specs.Stations.{plain_word}
@@ -20,6 +20,19 @@ pub record IsPermutationOf (n : ℕ) (p : List ℕ) : Type 0 where
 pub record Admits (net : Net) (p : List ℕ) : Type 0 where
   pub permutation : IsPermutationOf net.stations p
   pub joined : (i : ℕ) → i < net.stations → AreJoined (key_graph net) i (slice_index p i)
+
+-- whether no number stands twice in a list
+abbrev pub are_distinct : List ℕ → Bool
+are_distinct [] = true
+are_distinct (x ∷ xs) = not (is_among xs x) && are_distinct xs
+
+-- whether a list is a permutation of so many stations
+abbrev pub is_permutation_of : ℕ → List ℕ → Bool
+is_permutation_of n p = (length p == n) && (list_all (λ image. nat_lt image n) p && are_distinct p)
+
+-- whether a net admits a permutation
+abbrev pub admits : Net → List ℕ → Bool
+admits net p = is_permutation_of net.stations p && list_all (λ i. is_joined (key_graph net) i (slice_index p i)) (range_with_len 0 net.stations)
 
 -- the permutation that undoes p
 abbrev pub inverse : List ℕ → List ℕ

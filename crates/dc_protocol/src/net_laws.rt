@@ -1,5 +1,5 @@
 //! Laws of the net's definitions. Each function does nothing; its contract is the law.
-ghost use Rattle.dc_protocol.specs.NetLaws.{JoinedByWalks, DistanceIsLeast, RootIsLeast, ParentsAreLeastNearer, SumsMeetDemands, RootSumIsPartSum, InverseInverts, ComputedChangesSteer, BroadcastsAgree, SumsAreAlike, KeysCancel};
+ghost use Rattle.dc_protocol.specs.NetLaws.{JoinedByWalks, DistanceIsLeast, RootIsLeast, ParentsAreLeastNearer, SumsMeetDemands, RootSumIsPartSum, InverseInverts, ComputedChangesSteer, SteeringsAreComputed, BroadcastsAgree, SumsAreAlike, AlikeAsComputed, AdmitsAsComputed, KeysCancel};
 
 /// Stations that are joined as it is computed are those that a walk along honest edges joins.
 pub fn joined_by_walks()
@@ -43,6 +43,12 @@ pub fn computed_changes_steer()
     ensures { ComputedChangesSteer }
 {}
 
+/// No other changes of pads are a steering.
+#[tactic(auto, using(crate::proofs::OneSteering::steering_is_computed))]
+pub fn steerings_are_computed()
+    ensures { SteeringsAreComputed }
+{}
+
 /// The order in which a hub's arrivals come changes no broadcast, where none is refused.
 pub fn broadcasts_agree()
     ensures { BroadcastsAgree }
@@ -51,6 +57,18 @@ pub fn broadcasts_agree()
 /// Without dealt words all honest stations receive alike.
 pub fn sums_are_alike()
     ensures { SumsAreAlike }
+{}
+
+/// A run that is alike as it is computed is one in which all honest stations receive alike.
+#[tactic(auto, using(crate::proofs::Admitting::alike_is_computed))]
+pub fn alike_as_computed()
+    ensures { AlikeAsComputed }
+{}
+
+/// A permutation that is admitted as it is computed is one that keeps each station in its part.
+#[tactic(auto, using(crate::proofs::Admitting::admits_is_computed))]
+pub fn admits_as_computed()
+    ensures { AdmitsAsComputed }
 {}
 
 /// The keys of stations that received the same words add up to zero.
