@@ -14,7 +14,7 @@ use std::marker::Model;
 
 /// The keys of a station, word by word. It takes all its memory at its start. For now it keeps
 /// the words that it has taken, and computes each key from them.
-#[derive(Debug, Drop)]
+#[derive(Drop)]
 pub struct Mask {
     pads: SummedPads,
     taken: u16,

@@ -1,4 +1,4 @@
--- The pads of a pair, for any number of words, and those of a station: the signed sums over its pairs.
+-- The pads of a pair, for any number of words.
 use Rattle.std.specs.Prelude.{ℕ, ◌*◌, ◌/◌, ◌≤◌, ◌≡◌, length, slice_index, All}
 use Rattle.dc_spec.specs.Words.{IsSymbol}
 use Rattle.dc_protocol.specs.Net.{Pair}

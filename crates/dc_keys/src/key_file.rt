@@ -11,7 +11,7 @@ use std::marker::Model;
 
 /// The pairs that share pads in a session, each pair once, rising by their ends. All pads
 /// together are at most 2^26.
-#[derive(Debug, Drop)]
+#[derive(Drop)]
 pub struct KeyFile {
     /// 1 to 256.
     pub stations: u16,

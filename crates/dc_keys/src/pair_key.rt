@@ -10,7 +10,7 @@ use std::marker::Model;
 
 /// The pads of stations `u` and `v`, for a session of T words, T from 1 to 4096: sixteen first
 /// and sixteen second pads a word, of which the first second pad is 0.
-#[derive(Debug, Drop)]
+#[derive(Drop)]
 pub struct PairKey {
     /// The end that adds the key.
     pub u: u16,

@@ -8,7 +8,7 @@ use std::alloc::Global;
 use std::marker::Model;
 
 /// Pairs, seen by contracts as their list.
-#[derive(Debug, Drop)]
+#[derive(Drop)]
 pub struct Pairs {
     items: Vec<PairKey>,
 }

@@ -17,7 +17,7 @@ use std::marker::Model;
 
 /// The pads of a station: the sums of the pads of its pairs, those that it subtracts with a minus
 /// sign. For now they are kept as the pairs themselves, and summed in each key.
-#[derive(Debug, Drop)]
+#[derive(Drop)]
 pub struct SummedPads {
     words: u16,
     plus: Pairs,
