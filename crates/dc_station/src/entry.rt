@@ -1,4 +1,4 @@
-//! Entries of a log, given out whole.
+//! Entries of a log.
 
 use dc_field::{Bytes, Value};
 

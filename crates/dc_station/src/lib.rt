@@ -18,3 +18,5 @@ pub use station::Station;
 mod log_tests;
 #[cfg(test)]
 mod session_tests;
+#[cfg(test)]
+mod sessions;

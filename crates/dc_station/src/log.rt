@@ -6,7 +6,7 @@ ghost use Rattle.dc_station.specs.Entries.{entry_of};
 ghost use Rattle.dc_station.specs.Logs.{Fits, IsSized, entry_as, times_of};
 
 use crate::entry::Entry;
-use dc_field::{Bytes, NoMemory, Value};
+use dc_field::{NoMemory, Value};
 use std::alloc::Global;
 use std::marker::Model;
 
@@ -59,6 +59,7 @@ impl Log {
         })
     }
 
+    /// How many entries there are.
     pub fn len(&self) -> usize
         ensures { result ≡ length self.now.entries }
     {
@@ -86,20 +87,16 @@ impl Log {
         &self.bytes[begin..begin + row.size as usize]
     }
 
-    /// Entry number `i`, from 0, whole.
-    pub fn entry(&self, alloc: Global, i: usize) -> Result<Entry, NoMemory>
+    /// Whether entry number `i`, from 0, is this one.
+    pub fn is_entry(&self, i: usize, entry: &Entry) -> bool
         requires { i < length self.now.entries }
-        ensures { IfOk result (λ entry. slice_get self.now.entries i ≡ Some (entry_of entry)) }
+        ensures { IsTrue result ↔ (slice_get self.now.entries i ≡ Some (entry_of entry.now)) }
     {
-        let bytes = self.bytes(i);
-        match self.rows[i].kind {
-            Kind::Short { times } => Ok(Entry::Short {
-                value: value_of(bytes),
-                times,
-            }),
-            Kind::Long => Ok(Entry::Long {
-                bytes: Bytes::from_vec(bytes.to_vec(alloc)?),
-            }),
+        match entry {
+            Entry::Short { value, times } => {
+                self.times(i) == Some(*times) && self.bytes(i) == value.bytes.as_slice()
+            }
+            Entry::Long { bytes } => self.times(i).is_none() && self.bytes(i) == bytes.as_slice(),
         }
     }
 
@@ -165,14 +162,4 @@ fn put_row(bytes: &mut Vec<u8>, rows: &mut Vec<Row>, kind: Kind, more: &[u8])
     };
     let _ = bytes.extend_from_slice(more);
     let _ = rows.push(row);
-}
-
-/// The value of fifteen bytes.
-fn value_of(bytes: &[u8]) -> Value
-    requires { length bytes.now ≡ 15 }
-    ensures { result ≡ bytes.now }
-{
-    let mut value = [0u8; 15];
-    value.copy_from_slice(bytes);
-    Value { bytes: value }
 }

@@ -1,5 +1,5 @@
 use super::*;
-use dc_field::Value;
+use dc_field::{Bytes, Value};
 use std::test::*;
 
 /// The value whose last byte is this one, and the others zero.
@@ -46,19 +46,21 @@ fn puts_nothing_past_its_room(rt: HostRuntime) -> Result<(), Fail> {
 }
 
 #[test]
-fn gives_entries_whole(rt: HostRuntime) -> Result<(), Fail> {
+fn tells_entries_apart(rt: HostRuntime) -> Result<(), Fail> {
     let alloc = rt.alloc();
     let mut log = Log::start(alloc, 2).ok().ok_or("there is memory")?;
-    log.put_long(&[0, 1]);
-    log.put_short(&value(7), 3);
-    for i in 0..log.len() {
-        match log.entry(alloc, i).ok().ok_or("there is memory")? {
-            Entry::Short { value: told, times } => {
-                assert!(rt; i == 1 && told == value(7) && times == 3);
-            }
-            Entry::Long { bytes } => assert!(rt; i == 0 && bytes.as_slice() == [0, 1].as_slice()),
-        }
-    }
+    log.put_long(&[0; 15]);
+    log.put_short(&value(0), 3);
+    let bytes = vec![in alloc; 0u8; 15].ok().ok_or("there is memory")?;
+    let long = Entry::Long {
+        bytes: Bytes::from_vec(bytes),
+    };
+    let short = Entry::Short {
+        value: value(0),
+        times: 3,
+    };
     assert_eq!(rt; log.len(), 2);
+    assert!(rt; log.is_entry(0, &long) && !log.is_entry(0, &short));
+    assert!(rt; log.is_entry(1, &short) && !log.is_entry(1, &long));
     Ok(())
 }

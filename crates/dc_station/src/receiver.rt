@@ -100,10 +100,8 @@ impl Receiver {
     {
         match take_next(&mut self.burst, index, w) {
             BurstStep::Goes => {
-                self.phase = Phase::Burst {
-                    field,
-                    index: index + 1,
-                };
+                let index = index + 1;
+                self.phase = Phase::Burst { field, index };
                 Came::Nothing
             }
             BurstStep::Message { .. } => {

@@ -1,154 +1,108 @@
-//! Stations fed with received words: what they say before each word, and what they know at the end.
-//!
-//! A session is a text: `short`, `long` and `coin` are the stream; `round` has the station's word
-//! and the word received, five digits a symbol without zeros at the end; `log` and `sent` are what
-//! is known at the end, in which a message is told as 0 times; `pending` is two numbers.
+//! Stations fed with the words of sessions: the phase and the plain word before each word, and what is known after it.
 
-ghost use Rattle.std.specs.Prelude.{◌≡◌, ◌≤◌, IfOk};
+ghost use Rattle.std.specs.Prelude.{◌≡◌, ◌+◌, ◌<◌, ◌≤◌, IfOk};
 
 use super::*;
-use dc_field::{Bytes, NoMemory, Sym, Value, Word};
-use dc_stream::Stream;
+use crate::sessions::{OTHERS, Session, WORKED};
+use dc_field::{Word, read_decimal, read_word_text};
+use dc_stream::read_stream;
 use std::alloc::Global;
 use std::test::*;
-
-/// The number that hexadecimal digits spell.
-fn number(digits: &[u8]) -> u32 {
-    let mut number = 0u32;
-    for d in digits {
-        let digit = if *d < 58 {
-            d.wrapping_sub(48)
-        } else {
-            d.wrapping_sub(87)
-        };
-        number = number.wrapping_mul(16).wrapping_add(u32::from(digit));
-    }
-    number
-}
 
 /// Part `n` of a line, from 0.
 fn part(line: &str, n: usize) -> &str {
     line.split(' ').nth(n).unwrap_or("")
 }
 
-/// The word of symbols of five digits each, and zeros after them.
-fn word(text: &str) -> Word {
-    let digits = text.as_bytes();
-    let mut w = Word::zero();
-    for l in 0..16 {
-        if 5 * l + 5 <= digits.len() {
-            let symbol = Sym::new(number(&digits[5 * l..5 * l + 5]));
-            w.set(l, symbol.unwrap_or(w.get(l)));
+/// The number that decimal digits spell.
+fn number(text: &str) -> u32 {
+    read_decimal(text.as_bytes()).unwrap_or(u32::MAX)
+}
+
+/// The word of these digits and of zeros after them, five hexadecimal digits a symbol.
+fn word(text: &str) -> Result<Word, Fail> {
+    let mut digits = [48u8; 80];
+    for (i, digit) in text.as_bytes().iter().enumerate() {
+        if i < 80 {
+            digits[i] = *digit;
         }
     }
-    w
+    let word = read_word_text(&digits).ok().ok_or("no word")?;
+    Ok(word)
 }
 
-/// The value of thirty digits.
-fn value(text: &str) -> Value {
-    let digits = text.as_bytes();
-    let mut bytes = [0u8; 15];
-    for i in 0..15 {
-        if 2 * i + 2 <= digits.len() {
-            bytes[i] = (number(&digits[2 * i..2 * i + 2]) % 256) as u8;
-        }
-    }
-    Value { bytes }
-}
-
-/// The bytes of digits, two for each.
-fn bytes(alloc: Global, text: &str) -> Result<Bytes, NoMemory> {
-    let digits = text.as_bytes();
-    let mut items = Vec::new(alloc);
-    for i in 0..digits.len() / 2 {
-        items.push((number(&digits[2 * i..2 * i + 2]) % 256) as u8)?;
-    }
-    Ok(Bytes::from_vec(items))
-}
-
-/// The stream with one more short.
-fn with_short(stream: Stream, text: &str) -> Result<Stream, Fail> {
-    if 4096 <= stream.shorts.as_slice().len() {
-        return Err("too many shorts")?;
-    }
-    let stream = stream
-        .with_short(value(text))
-        .ok()
-        .ok_or("there is memory")?;
-    Ok(stream)
-}
-
-/// The stream with one more long.
-fn with_long(alloc: Global, stream: Stream, text: &str) -> Result<Stream, Fail> {
-    let message = bytes(alloc, text).ok().ok_or("there is memory")?;
-    if 256 <= stream.longs.as_slice().len() || 3838 < message.as_slice().len() {
-        return Err("too many longs")?;
-    }
-    let stream = stream.with_long(message).ok().ok_or("there is memory")?;
-    Ok(stream)
-}
-
-/// The stream with one more coin.
-fn with_coin(stream: Stream, field: u32) -> Result<Stream, Fail> {
-    if 4096 <= stream.coins.as_slice().len() || 16 <= field {
-        return Err("too many coins")?;
-    }
-    let stream = stream.with_coin(field as u8).ok().ok_or("there is memory")?;
-    Ok(stream)
-}
-
-/// The stream with what a line says of it.
-fn with_line(alloc: Global, stream: Stream, line: &str) -> Result<Stream, Fail> {
-    let payload = part(line, 1);
+/// The phase that a round tells.
+fn phase(line: &str) -> Phase {
     match part(line, 0) {
-        "short" => with_short(stream, payload),
-        "long" => with_long(alloc, stream, payload),
-        "coin" => with_coin(stream, number(payload.as_bytes())),
-        _ => Ok(stream),
+        "reserve" => Phase::Reserve,
+        "burst" => Phase::Burst {
+            field: (number(part(line, 3)) % 256) as u8,
+            index: (number(part(line, 4)) % 65536) as u16,
+        },
+        _ => Phase::Epoch,
     }
 }
 
-/// The stream of a session.
-fn stream_of(alloc: Global, session: &str) -> Result<Stream, Fail> {
-    let mut stream = Stream::empty(alloc);
-    for line in session.split('\n') {
-        stream = with_line(alloc, stream, line)?;
-    }
-    Ok(stream)
+/// Whether a line is a round.
+fn is_round(line: &str) -> bool {
+    matches!(part(line, 0), "reserve" | "burst" | "epoch")
 }
 
-/// The words of a session, each said and received.
-fn rounds_of(alloc: Global, session: &str) -> Result<Vec<(Word, Word)>, Fail> {
-    let mut rounds = Vec::new(alloc);
-    for line in session.split('\n') {
-        if part(line, 0) == "round" {
-            let round = (word(part(line, 1)), word(part(line, 2)));
-            rounds.push(round).ok().ok_or("there is memory")?;
+/// How many of the lines are rounds.
+fn rounds_in(lines: &str) -> usize {
+    let mut count = 0usize;
+    for line in lines.split('\n') {
+        if is_round(line) {
+            count = count.wrapping_add(1);
         }
     }
-    Ok(rounds)
+    count
 }
 
-/// Whether an entry of a log is the one that a line tells.
-fn is_entry(alloc: Global, log: &Log, i: usize, line: &str) -> bool {
+/// What a hexadecimal digit is worth.
+fn worth(digit: u8) -> u8 {
+    if digit < 58 {
+        digit.wrapping_sub(48)
+    } else {
+        digit.wrapping_sub(87)
+    }
+}
+
+/// Whether these are the bytes of hexadecimal digits, two for each.
+fn are_bytes(bytes: &[u8], digits: &[u8]) -> bool {
+    if digits.len() % 2 != 0 || digits.len() / 2 != bytes.len() {
+        return false;
+    }
+    for (i, byte) in bytes.iter().enumerate() {
+        let high = worth(digits[2 * i]).wrapping_mul(16);
+        if high.wrapping_add(worth(digits[2 * i + 1])) != *byte {
+            return false;
+        }
+    }
+    true
+}
+
+/// Whether entry `i` of a log is the one that a line tells.
+fn is_entry(log: &Log, i: usize, line: &str) -> bool {
     if log.len() <= i {
         return false;
     }
-    let times = number(part(line, 2).as_bytes());
-    match bytes(alloc, part(line, 1)) {
-        Ok(bytes) => {
-            log.bytes(i) == bytes.as_slice() && u32::from(log.times(i).unwrap_or(0)) == times
+    match log.times(i) {
+        Some(times) => {
+            part(line, 1) == "short"
+                && u32::from(times) == number(part(line, 2))
+                && are_bytes(log.bytes(i), part(line, 3).as_bytes())
         }
-        Err(_) => false,
+        None => part(line, 1) == "long" && are_bytes(log.bytes(i), part(line, 2).as_bytes()),
     }
 }
 
-/// Whether a log has the entries that the lines of a kind tell.
-fn is_log(alloc: Global, log: &Log, session: &str, kind: &str) -> bool {
+/// Whether a log has the entries that the lines of a kind tell, of the first so many lines.
+fn is_log(log: &Log, lines: &str, upto: usize, kind: &str) -> bool {
     let mut i = 0usize;
-    for line in session.split('\n') {
-        if part(line, 0) == kind {
-            if !is_entry(alloc, log, i, line) {
+    for (n, line) in lines.split('\n').enumerate() {
+        if n < upto && part(line, 0) == kind {
+            if !is_entry(log, i, line) {
                 return false;
             }
             i = i.wrapping_add(1);
@@ -157,480 +111,83 @@ fn is_log(alloc: Global, log: &Log, session: &str, kind: &str) -> bool {
     i == log.len()
 }
 
-/// Whether so much is pending as a session tells.
-fn is_pending(pending: Pending, session: &str) -> bool {
-    for line in session.split('\n') {
-        if part(line, 0) == "pending" {
-            return pending.shorts == number(part(line, 1).as_bytes())
-                && pending.longs == number(part(line, 2).as_bytes());
-        }
-    }
-    false
+/// Whether a station knows what the first so many lines tell, and has as much pending as the next one tells.
+fn knows(station: &Station, lines: &str, upto: usize, line: &str) -> bool {
+    let pending = station.pending();
+    pending.shorts == number(part(line, 1))
+        && pending.longs == number(part(line, 2))
+        && is_log(station.log(), lines, upto, "log")
+        && is_log(station.sent(), lines, upto, "sent")
 }
 
-/// A station at its start, for some words.
-fn begin(alloc: Global, session: &str, words: u16) -> Result<Station, Fail>
+/// Feeds a station with the word of a round: whether it was in the phase and said the word that the round tells.
+fn hears(station: &mut Station, line: &str) -> Result<bool, Fail>
+    requires { station.old.taken < station.old.total }
+    ensures taken { IfOk result (λ so. station.new.taken ≡ station.old.taken + 1) }
+    ensures total { station.new.total ≡ station.old.total }
+{
+    let said = word(part(line, 1))?;
+    let received = word(part(line, 2))?;
+    let so = station.phase() == phase(line) && station.plain().numbers() == said.numbers();
+    station.receive(&received);
+    Ok(so)
+}
+
+/// A station at its start, with a stream file, in a session of so many words.
+fn begin(alloc: Global, stream: &str, words: u16) -> Result<Station, Fail>
     requires some { 1 ≤ words }
     requires most { words ≤ 4096 }
     ensures none { IfOk result (λ station. station.taken ≡ 0) }
     ensures all { IfOk result (λ station. station.total ≡ words) }
 {
-    let stream = stream_of(alloc, session)?;
-    match Station::start(alloc, stream, words) {
-        Ok(station) => Ok(station),
-        Err(_) => Err("there is memory")?,
-    }
+    let stream = read_stream(alloc, stream.as_bytes())
+        .ok()
+        .ok_or("no stream")?;
+    let station = Station::start(alloc, stream, words)
+        .ok()
+        .ok_or("there is memory")?;
+    Ok(station)
 }
 
-/// Feeds a station with the words of a session, and compares all that it says.
-fn check(alloc: Global, session: &str) -> Result<(), Fail> {
-    let rounds = rounds_of(alloc, session)?;
-    if rounds.len() < 1 || 4096 < rounds.len() {
+/// Feeds a station with a session: the first line, from 0, that is not as it tells. The last line is compared again
+/// with what the station hands over at its end.
+fn first_wrong(alloc: Global, session: &Session) -> Result<Option<usize>, Fail> {
+    let lines = session.lines;
+    let mut left = rounds_in(lines);
+    if left < 1 || 4096 < left {
         return Err("one round to 4096")?;
     }
-    let mut station = begin(alloc, session, rounds.len() as u16)?;
-    for round in &rounds {
-        if station.plain().numbers() != round.0.numbers() {
-            return Err("another word")?;
+    let mut station = begin(alloc, session.stream, left as u16)?;
+    for (n, line) in lines.split('\n').enumerate() {
+        if is_round(line) {
+            if left == 0 {
+                return Err("more rounds than counted")?;
+            }
+            left -= 1;
+            if !hears(&mut station, line)? {
+                return Ok(Some(n));
+            }
+        } else if part(line, 0) == "pending" && !knows(&station, lines, n, line) {
+            return Ok(Some(n));
         }
-        station.receive(&round.1);
-    }
-    if !is_pending(station.pending(), session)
-        || !is_log(alloc, station.log(), session, "log")
-        || !is_log(alloc, station.sent(), session, "sent")
-    {
-        return Err("other entries")?;
     }
     let (log, sent) = station.finish();
-    if !is_log(alloc, &log, session, "log") || !is_log(alloc, &sent, session, "sent") {
-        return Err("other entries at the end")?;
+    let known = is_log(&log, lines, usize::MAX, "log") && is_log(&sent, lines, usize::MAX, "sent");
+    Ok(if known { None } else { Some(usize::MAX) })
+}
+
+#[test]
+fn stations_in_sessions_worked_by_hand(rt: HostRuntime) -> Result<(), Fail> {
+    for session in WORKED.iter() {
+        assert_eq!(rt; first_wrong(rt.alloc(), session)?, None, "{}", session.name);
     }
     Ok(())
 }
 
 #[test]
-fn a_collision_and_the_next_coins(rt: HostRuntime) -> Result<(), Fail> {
-    check(
-        rt.alloc(),
-        "long aa
-coin 5
-coin 5
-round 000000000000000000000000000001 000000000000000000000000000002
-round 0 0
-round 000000000000000000000000000001 00000000000000000000000000000100000000000000000001
-round 000010000000001000aa 000010000000001000aa
-round 0 000010000000001000bb
-round 0 0
-log aa 0
-log bb 0
-sent aa 0
-pending 0 0",
-    )?;
-    check(
-        rt.alloc(),
-        "long bb
-coin 5
-coin 9
-round 000000000000000000000000000001 000000000000000000000000000002
-round 0 0
-round 00000000000000000000000000000000000000000000000001 00000000000000000000000000000100000000000000000001
-round 0 000010000000001000aa
-round 000010000000001000bb 000010000000001000bb
-round 0 0
-log aa 0
-log bb 0
-sent bb 0
-pending 0 0",
-    )?;
-    check(
-        rt.alloc(),
-        "round 0 000000000000000000000000000002
-round 0 0
-round 0 00000000000000000000000000000100000000000000000001
-round 0 000010000000001000aa
-round 0 000010000000001000bb
-round 0 0
-log aa 0
-log bb 0
-pending 0 0",
-    )?;
-    Ok(())
-}
-
-#[test]
-fn a_burst_that_came_back_changed(rt: HostRuntime) -> Result<(), Fail> {
-    check(
-        rt.alloc(),
-        "long 01
-coin 5
-round 000000000000000000000000000001 000000000000000000000000000001
-round 00001000000000100001 00002000000000200003
-round 0 0
-round 0 0
-pending 0 1",
-    )?;
-    check(
-        rt.alloc(),
-        "long 02
-coin 5
-round 000000000000000000000000000001 000000000000000000000000000001
-round 00001000000000100002 00002000000000200003
-round 0 0
-round 0 0
-pending 0 1",
-    )?;
-    Ok(())
-}
-
-#[test]
-fn void_epochs(rt: HostRuntime) -> Result<(), Fail> {
-    check(
-        rt.alloc(),
-        "short 000000000000000000000000000001
-round 0 0
-round 00001000000000000000000000000000000000000000000000000000000000000000000000000001 00002000000000000000000000000000000000000000000000000000000000000000000000000004
-round 00001000000000000000000000000000000000000000000000000000000000000000000000000001 0
-round 0 0
-round 00001000000000000000000000000000000000000000000000000000000000000000000000000001 00002000000000000000000000000000000000000000000000000000000000000000000000000004
-pending 1 0",
-    )?;
-    check(
-        rt.alloc(),
-        "short 000000000000000000000000000003
-round 0 0
-round 00001000000000000000000000000000000000000000000000000000000000000000000000000003 00002000000000000000000000000000000000000000000000000000000000000000000000000004
-round 0 0
-round 0 0
-round 00001000000000000000000000000000000000000000000000000000000000000000000000000003 00002000000000000000000000000000000000000000000000000000000000000000000000000004
-pending 1 0",
-    )?;
-    check(
-        rt.alloc(),
-        "short 000000000000000000000000000001
-round 0 0
-round 00001000000000000000000000000000000000000000000000000000000000000000000000000001 00002000000000000000000000000000000000000000000000000000000000000000000000000004
-round 00001000000000000000000000000000000000000000000000000000000000000000000000000001 00003000000000000000000000000000000000000000000000000000000000000000000000000001
-round 0 0
-round 00001000000000000000000000000000000000000000000000000000000000000000000000000001 00002000000000000000000000000000000000000000000000000000000000000000000000000004
-pending 1 0",
-    )?;
-    check(
-        rt.alloc(),
-        "short 000000000000000000000000000003
-round 0 0
-round 00001000000000000000000000000000000000000000000000000000000000000000000000000003 00002000000000000000000000000000000000000000000000000000000000000000000000000004
-round 0 00003000000000000000000000000000000000000000000000000000000000000000000000000001
-round 0 0
-round 00001000000000000000000000000000000000000000000000000000000000000000000000000003 00002000000000000000000000000000000000000000000000000000000000000000000000000004
-pending 1 0",
-    )?;
-    check(
-        rt.alloc(),
-        "short 000000000000000000000000000001
-short 000000000000000000000000000003
-round 0 0
-round 00001000000000000000000000000000000000000000000000000000000000000000000000000001 00003000000000000000000000000000000000000000000000000000000000000000000000000008
-round 00001000000000000000000000000000000000000000000000000000000000000000000000000001 00001000000000000000000000000000000000000000000000000000000000000000000000000001
-round 0 0
-round 0 0
-round 00001000000000000000000000000000000000000000000000000000000000000000000000000003 0
-log 000000000000000000000000000001 1
-sent 000000000000000000000000000001 1
-pending 1 0",
-    )?;
-    check(
-        rt.alloc(),
-        "short 000000000000000000000000000003
-round 0 0
-round 00001000000000000000000000000000000000000000000000000000000000000000000000000003 00003000000000000000000000000000000000000000000000000000000000000000000000000008
-round 0 00001000000000000000000000000000000000000000000000000000000000000000000000000001
-round 00001000000000000000000000000000000000000000000000000000000000000000000000000003 0
-round 0 0
-round 00001000000000000000000000000000000000000000000000000000000000000000000000000003 0
-log 000000000000000000000000000001 1
-pending 1 0",
-    )?;
-    Ok(())
-}
-
-#[test]
-fn sessions_with_messages(rt: HostRuntime) -> Result<(), Fail> {
-    check(
-        rt.alloc(),
-        "short 000000000000000000000000000000
-long 671003c33c7edb8b71ce525bcd
-long 9bac7a9c1eec50c8d1ed97a1d7f21de5da10a330
-coin 0
-round 00001 00001
-round 00001000000000d000670001000003000c30003c0007e000db0008b00071000ce000520005b000cd 00001000000000d000670001000003000c30003c0007e000db0008b00071000ce000520005b000cd
-round 00001 00001
-round 0 0
-log 671003c33c7edb8b71ce525bcd 0
-log 000000000000000000000000000000 1
-sent 671003c33c7edb8b71ce525bcd 0
-sent 000000000000000000000000000000 1
-pending 0 1",
-    )?;
-    check(
-        rt.alloc(),
-        "long 5f
-long 8f1c560ca2ba1776d8adc3b8c69496508f12369d
-coin 9
-round 00000000000000000000000000000000000000000000000001 00000000000000000000000000000000000000000000000001
-round 0000100000000010005f 0000100000000010005f
-round 0 0000200092000f7000460006b000a9000d7000d90004d00040000570007f000a2000fd0008d000dd
-round 0 000010000000000000000000000000000000000000000000000000000000000000000000001
-round 0 0
-round 0 000020002800068000230000500040000af000d200086000a2000df0000e000910001a000fd00076
-round 0 00001
-round 0 0
-round 0 000020002900038000c5000320004d000a70009b000630001f000a7000f800019000790007600093
-log 5f 0
-log 000000000000000000000000000100 1
-log 92f7466ba9d7d94d40577fa2fd8cdd 1
-log 000000000000000000000000000000 1
-log 2868230540afd286a2df0e911afd76 1
-sent 5f 0
-pending 0 1",
-    )?;
-    check(
-        rt.alloc(),
-        "short 430a28cc44f7d46af8575e48300906
-short 000000000000000000000000000001
-short 000000000000000000000000000000
-long 0c39a5fe13a5d8edf7ced57fc880f9a6ad5b876c
-long 
-coin f
-round 00000000000000000000000000000000000000000000000000000000000000000000000000000001 00000000000000000000000000000000000000000000000000000000000000000000000000000001
-round 0000200000000140000c00039000a5000fe00013000a5000d8000ed000f7000ce000d50007f000c8 0000200000000140000c00039000a5000fe00013000a5000d8000ed000f7000ce000d50007f000c8
-round 0000100080000f9000a6000ad0005b000870006c 0000100080000f9000a6000ad0005b000870006c
-round 00001000430000a00028000cc00044000f7000d40006a000f8000570005e00048000300000900006 00001000430000a00028000cc00044000f7000d40006a000f8000570005e00048000300000900006
-round 0 0
-round 00001000000000000000000000000000000000000000000000000000000000000000000000000001 00001000000000000000000000000000000000000000000000000000000000000000000000000001
-round 0 00002
-round 00001 00001
-round 0 0
-log 0c39a5fe13a5d8edf7ced57fc880f9a6ad5b876c 0
-log 430a28cc44f7d46af8575e48300906 1
-log 000000000000000000000000000001 1
-log 000000000000000000000000000000 1
-sent 0c39a5fe13a5d8edf7ced57fc880f9a6ad5b876c 0
-sent 430a28cc44f7d46af8575e48300906 1
-sent 000000000000000000000000000001 1
-sent 000000000000000000000000000000 1
-pending 0 1",
-    )?;
-    check(
-        rt.alloc(),
-        "long 7f32077129d38fd1b2e6746227eda4aee565d085
-long 7fa9784fe027a53e4f1ab33fb4a87b9f1bb69ea3
-round 0 000000000000000000000000000001
-round 0 00002000000000e000ed00053000890009b000d8000be0002e00012000de00042000ad000aa00083
-round 0 0010000046
-round 0 00002000000000000000000000000000000000000000000000000000000000000000000000100003
-round 0 00001000000000000000000000000000000000000000000000000000000000000000000000000003
-round 0 00001
-round 0 00002000000000e000ed00053000890009b000d8000be0002e00012000de00042000ad000aa00083
-round 0 0000100046
-round 0 0000200041000ca000d5000890006d00016000c4000ba0005e0000e0005d0007b00097000c10002f
-log 000000000000000000000000000003 1
-log 000000000000000000000000000100 1
-log ed53899bd8be2e12de42adaa8346 0
-pending 0 2",
-    )?;
-    check(
-        rt.alloc(),
-        "short 2402fb92fc1206ca87af74a684f2ee
-short b3d078346239638b3be074fae8e9f8
-long 
-coin 5
-round 000000000000000000000000000001 000000000000000000000000000001
-round 00001 00001
-round 000010002400002000fb00092000fc0001200006000ca00087000af00074000a600084000f2000ee 000020002400002000fb00092000fc0001200006000ca00087000af00074000a600084000f2000f1
-round 0 00001000000000000000000000000000000000000000000000000000000000000000000000000003
-round 0 0000000000000000000000100
-round 00001000b3000d000078000340006200039000630008b0003b000e000074000fa000e8000e9000f8 00002000b3000d000078000340006200039000630008b0003b000e000074000fa000e8000e9000fb
-round 0 00001000000000000000000000000000000000000000000000000000000000000000000000000003
-round 0 0
-round 0 0000100071000a00004c000300002b0006e0000000085000cb000130008100071000ba000a10ff00
-log  0
-log 000000000000000000000000000003 1
-log 2402fb92fc1206ca87af74a684f2ee 1
-log 000000000000000000000000000003 1
-log b3d078346239638b3be074fae8e9f8 1
-sent  0
-sent 2402fb92fc1206ca87af74a684f2ee 1
-sent b3d078346239638b3be074fae8e9f8 1
-pending 0 0",
-    )?;
-    check(
-        rt.alloc(),
-        "short 000000000000000000000000000000
-short 302389a24ec6191ee5321e1b74f969
-short 000000000000000000000000000003
-long 41843cba14586227061491e659
-long a7fc84cb2491d38e9029dc8afa95775c0afcd011
-coin 5
-coin 9
-coin 5
-round 000000000000000000000000000001 00000000000000000000000000000100000000000000000000000000000000000000000000000001
-round 00001000000000d00041000840003c000ba00014000580006200027000060001400091000e600059 00001000000000d00041000840003c000ba00014000580006200027000060001400091000e600059
-round 0 00002000000000e000dd0008b00046000b90005e00074000a10000800070000840009e000820001d
-round 0 000010007f
-round 00001 00002
-round 00001 00002
-round 00000000000000000000000000000000000000000000000001 00000000000000000000000000000000000000000000000001
-round 000020000000014000a7000fc00084000cb0002400091000d30008e0009000029000dc0008a000fa 000020000000014000a7000fc00084000cb0002400091000d30008e0009000029000dc0008a000fa
-round 0000100095000770005c0000a000fc000d000011 0000100095000770005c0000a000fc000d000011
-log 41843cba14586227061491e659 0
-log dd8b46b95e74a10870849e821d7f 0
-log 000000000000000000000000000000 2
-log a7fc84cb2491d38e9029dc8afa95775c0afcd011 0
-sent 41843cba14586227061491e659 0
-sent 000000000000000000000000000000 1
-sent a7fc84cb2491d38e9029dc8afa95775c0afcd011 0
-pending 2 0",
-    )?;
-    Ok(())
-}
-
-#[test]
-fn sessions_with_equal_values(rt: HostRuntime) -> Result<(), Fail> {
-    check(
-        rt.alloc(),
-        "short 000000000000000000000000000003
-short 000000000000000000000000000003
-short 000000000000000000000000000100
-coin f
-coin 5
-coin 9
-round 0 0
-round 00001000000000000000000000000000000000000000000000000000000000000000000000000003 0000200063000d8000db000a70009d000bb000e4000ba000d20001d000bf00028000230005f000b3
-round 00001000000000000000000000000000000000000000000000000000000000000000000000000003 00001000000000000000000000000000000000000000000000000000000000000000000000000003
-round 0 0
-round 00001000000000000000000000000000000000000000000000000000000000000000000000000003 00002000000000000000000000000000000000000000000000000000000000000000000000000006
-round 00001000000000000000000000000000000000000000000000000000000000000000000000000003 00002100000000000000000000000000000000000000000000000000000000000000000000000006
-round 0 0
-round 00001000000000000000000000000000000000000000000000000000000000000000000000000003 00002000000000000000000000000000000000000000000000000000000000000000000000000006
-round 00001000000000000000000000000000000000000000000000000000000000000000000000000003 00002000000000000000000000000000000000000000000000000000000000000000000000000006
-log 000000000000000000000000000003 1
-log 63d8dba79dbbe4bad21dbf28235fb0 1
-log 000000000000000000000000000003 2
-sent 000000000000000000000000000003 1
-sent 000000000000000000000000000003 1
-pending 1 0",
-    )?;
-    check(
-        rt.alloc(),
-        "long b1f8fef31fccb32115aab2f49f3cf9003e157529
-long 1b2843f4b4153ae1bfdf8808fc27
-coin 5
-coin 5
-coin 0
-round 000000000000000000000000000001 000000000000000000000000000001
-round 000020000000014000b1000f8000fe000f30001f000cc000b30002100015000aa000b2000f40009f 000020000000014000b1000f8000fe000f30001f000cc000b30002100015000aa000b2000f40009f
-round 000010003c000f9000000003e000150007500029 0ff000003c000f9000000003e000150007500029
-round 0 00002000ff000ff000ff000ff000ff000ff000ff000ff000ff000ff000ff000ff000ff000ff000ff
-round 0 00001
-round 000000000000000000000000000001 000000000000000000000000000001
-round 000020000000014000b1000f8000fe000f30001f000cc000b30002100015000aa000b2000f40009f 000020000000014000b1000f8000fe000f30001f000cc000b30002100015000aa000b2000f40009f
-round 000010003c000f9000000003e000150007500029 000010003c000f9000000003e000150007500029
-round 0 00001000000000000000000000000000000000000000000000000000000000000000000000000003
-log 000000000000000000000000000000 1
-log ffffffffffffffffffffffffffffff 1
-log b1f8fef31fccb32115aab2f49f3cf9003e157529 0
-log 000000000000000000000000000003 1
-sent b1f8fef31fccb32115aab2f49f3cf9003e157529 0
-pending 0 1",
-    )?;
-    check(
-        rt.alloc(),
-        "short 000000000000000000000000000003
-short 4143113aac3439af7d22000673b171
-short 4143113aac3439af7d22000673b171
-long a7912bd33f8d8e5437e9acf50b
-coin 5
-coin f
-coin 5
-round 000000000000000000000000000001 000000000000000000000000000001
-round 00001000000000d000a7000910002b000d30003f0008d0008e0005400037000e9000ac000f50000b 00001000000000d000a7000910002b000d30003f0008d0008e0005400037000e9000ac000f50000b
-round 00001000000000000000000000000000000000000000000000000000000000000000000000000003 00001000000000000000000000000000000000000000000000000000000000000000000000000003
-round 0 0
-round 000010004100043000110003a000ac0003400039000af0007d00022000000000600073000b100071 000010004100043000110003a000ac0003400039000af0007d00022000000000600073000b100071
-round 0 0
-round 000010004100043000110003a000ac0003400039000af0007d00022000000000600073000b100071 000010004100043000110003a000ac0003400039000af0007d00022000000000600073000b100071
-round 0 0
-round 0 0
-log a7912bd33f8d8e5437e9acf50b 0
-log 000000000000000000000000000003 1
-log 4143113aac3439af7d22000673b171 1
-log 4143113aac3439af7d22000673b171 1
-sent a7912bd33f8d8e5437e9acf50b 0
-sent 000000000000000000000000000003 1
-sent 4143113aac3439af7d22000673b171 1
-sent 4143113aac3439af7d22000673b171 1
-pending 0 0",
-    )?;
-    check(
-        rt.alloc(),
-        "short 000000000000000000000000000100
-short 000000000000000000000000000000
-long 9ab90c6060b99728d9929e2d6ac3
-coin 5
-round 000000000000000000000000000001 000000000000000000000000000002
-round 000010000000000000000000000000000000000000000000000000000000000000000000001 00002000f3000b60004d00068000f800062000770004b000f50005e000260009f000ee00096000ad
-round 000010000000000000000000000000000000000000000000000000000000000000000000001 000000000000000000000000000000000000000000000000000000000000000000000000001
-round 0 000000000000000000000000000001
-round 0 00002000000000e000bd0005f000b8000f7000700009e000ca0005e0002400032000650002000086
-round 0 00001000d0
-round 000010000000000000000000000000000000000000000000000000000000000000000000001 00002000f3000b60004d00068000f800062000770004b000f50005e000260009f000ee00096000ad
-round 000010000000000000000000000000000000000000000000000000000000000000000000001 000010000000000000000000000000000000000000000000000000000000000000000000001
-round 0 0
-log bd5fb8f7709eca5e2432652086d0 0
-log 000000000000000000000000000100 1
-log f3b64d68f862774bf55e269fee95ad 1
-sent 000000000000000000000000000100 1
-pending 1 1",
-    )?;
-    check(
-        rt.alloc(),
-        "short 265ca7da277e6f28239de431d378f9
-short 000000000000000000000000000001
-short 000000000000000000000000000000
-coin 5
-coin 5
-coin 9
-round 0 000000000000000000000000000001
-round 0 000020000000014000dc000a6000cf00076000e40009e0005e000f90007d000a80008e0000500075
-round 0 00001000e00008e00072000e70009b0003000027
-round 00001000260005c000a7000da000270007e0006f00028000230009d000e400031000d300078000f9 00002000a2000ff0019e001b6000b0000b3000e80008100036000cc001bb0006f001d200109000fd
-round 00001000260005c000a7000da000270007e0006f00028000230009d000e400031000d300078000f9 00001000260005c000a7000da000270007e0006f00028000230009d000e400031000d300078000f9
-round 0 000000000000000000000000000001
-round 0 00001000000000d0008000070000ea000c800001000d8000a5000cc000380004e000a70002d0008b
-round 00001000000000000000000000000000000000000000000000000000000000000000000000000001 000020006c000a5000d2000c7000e6000200004900001000220004b000150000000082000fc0007e
-round 00001000000000000000000000000000000000000000000000000000000000000000000000000001 00001000000000000000000000000000000000000000000000000000000000000000000000000001
-log dca6cf76e49e5ef97da88e0575e08e72e79b3027 0
-log 265ca7da277e6f28239de431d378f9 1
-log 7ca3f7dc89357959132fd73eff9104 1
-log 8070eac801d8a5cc384ea72d8b 0
-log 000000000000000000000000000001 1
-log 6ca5d2c7e6204901224b150082fc7d 1
-sent 265ca7da277e6f28239de431d378f9 1
-sent 000000000000000000000000000001 1
-pending 1 0",
-    )?;
-    check(
-        rt.alloc(),
-        "long 
-long 50
-coin f
-round 00000000000000000000000000000000000000000000000000000000000000000000000000000001 00000000000000000000000000000000000000000000000001000000000000000000000000000001
-round 0 00002000000000e0002e000230000a00028000e2000c5000ed000c80001c0009400089000de000bc
-round 0 00001000ad
-round 00001 000010000000002
-log 2e230a28e2c5edc81c9489debcad 0
-log 0000 0
-pending 0 2",
-    )?;
+fn stations_in_other_sessions(rt: HostRuntime) -> Result<(), Fail> {
+    for session in OTHERS.iter() {
+        assert_eq!(rt; first_wrong(rt.alloc(), session)?, None, "{}", session.name);
+    }
     Ok(())
 }
