@@ -52,7 +52,10 @@ fn check_fault(text: &str, due: BadGroup) -> Result<(), Fail> {
 
 /// A whole and a part, and what is to be left.
 fn check_rest(whole: &str, part: &str, rest: &str) -> Result<(), Fail> {
-    let left = group(whole)?.minus(&group(part)?).ok().ok_or("it is a part")?;
+    let left = group(whole)?
+        .minus(&group(part)?)
+        .ok()
+        .ok_or("it is a part")?;
     if is_of(&left, &word(rest)?) {
         Ok(())
     } else {
@@ -85,8 +88,9 @@ fn values(rt: HostRuntime) -> Result<(), Fail> {
         [1, 0, 0, 0, 0, 0, 0, 0, 0, 0, 0, 0, 0, 2, 3].as_slice()
     );
     assert_eq!(rt; short.number(), 5192296858534827628530496329220611);
-    let due =
-        word("00100001000000000000000000000000000000000000000000000000000000000000000020000300")?;
+    let due = word(
+        "00100001000000000000000000000000000000000000000000000000000000000000000020000300",
+    )?;
     assert_eq!(rt;
         short.to_word(256).numbers().as_slice(),
         due.numbers().as_slice()

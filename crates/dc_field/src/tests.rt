@@ -148,7 +148,10 @@ fn words_are_added(rt: HostRuntime) -> Result<(), Fail> {
     );
     assert_eq!(rt; Word::sum(&[]).get(7).number(), 0);
     assert_eq!(rt; one.sub(&greatest).numbers().as_slice(), [2; 16].as_slice());
-    assert_eq!(rt; greatest.sub(&one).numbers().as_slice(), [65535; 16].as_slice());
+    assert_eq!(rt;
+        greatest.sub(&one).numbers().as_slice(),
+        [65535; 16].as_slice()
+    );
     Ok(())
 }
 
