@@ -11,7 +11,7 @@ ghost use Rattle.dc_stream.specs.Reading.{stream_of, stream_with, told_length, w
 use crate::fault::{StreamFault, StreamKind};
 use crate::stream::Stream;
 use dc_field::{Refusal, Value, read_decimal};
-use dc_text::{decode_payload, first_line, payload_bytes, payload_length, told_line};
+use dc_text::{Digits, decode_payload, first_line, payload_bytes, payload_length, told_line};
 use std::alloc::Global;
 
 /// The stream that bytes spell. No line is copied but its payload.
@@ -30,6 +30,7 @@ pub fn read_stream(alloc: Global, b: &[u8]) -> Result<Stream, Refusal<StreamFaul
 fn read_lines(alloc: Global, b: &[u8]) -> Result<Stream, Refusal<StreamFault>>
     ensures { Answers result (stream_of b.now) }
 {
+    let digits = Digits::new();
     let mut stream = Stream::empty(alloc);
     let mut rest = b;
     let mut before = 0u64;
@@ -39,7 +40,7 @@ fn read_lines(alloc: Global, b: &[u8]) -> Result<Stream, Refusal<StreamFault>>
             Some(text) => text,
             None => return Err(at_line(number, StreamKind::NotText)),
         };
-        stream = match with_text(alloc, stream, text) {
+        stream = match with_text(alloc, &digits, stream, text) {
             Ok(stream) => stream,
             Err(Refusal::Bad(kind)) => return Err(at_line(number, kind)),
             Err(Refusal::NoMemory) => return Err(Refusal::NoMemory),
@@ -62,14 +63,19 @@ fn at_line(number: u64, kind: StreamKind) -> Refusal<StreamFault>
 
 /// The stream with one more line.
 #[tactic(auto, unfolding(crate::specs::Reading::stream_with))]
-fn with_text(alloc: Global, stream: Stream, text: &[u8]) -> Result<Stream, Refusal<StreamKind>>
+fn with_text(
+    alloc: Global,
+    digits: &Digits,
+    stream: Stream,
+    text: &[u8],
+) -> Result<Stream, Refusal<StreamKind>>
     ensures { Answers result (stream_with stream text.now) }
 {
     if text.starts_with(b"short ") {
-        return with_short(stream, &text[6..]);
+        return with_short(digits, stream, &text[6..]);
     }
     if text.starts_with(b"long ") {
-        return with_long(alloc, stream, &text[5..]);
+        return with_long(alloc, digits, stream, &text[5..]);
     }
     if text.starts_with(b"coin ") {
         return with_coin(stream, &text[5..]);
@@ -77,10 +83,10 @@ fn with_text(alloc: Global, stream: Stream, text: &[u8]) -> Result<Stream, Refus
     Err(Refusal::Bad(StreamKind::Word))
 }
 
-/// The stream with the short that these digits spell.
+/// The stream with the short of this text.
 #[tactic(auto, unfolding(crate::specs::Reading::with_short))]
-fn with_short(stream: Stream, digits: &[u8]) -> Result<Stream, Refusal<StreamKind>>
-    ensures { Answers result (short_added stream digits.now) }
+fn with_short(digits: &Digits, stream: Stream, text: &[u8]) -> Result<Stream, Refusal<StreamKind>>
+    ensures { Answers result (short_added stream text.now) }
 {
     if !(stream.longs.as_slice().is_empty() && stream.coins.as_slice().is_empty()) {
         return Err(Refusal::Bad(StreamKind::Order));
@@ -88,27 +94,32 @@ fn with_short(stream: Stream, digits: &[u8]) -> Result<Stream, Refusal<StreamKin
     if 4096 <= stream.shorts.as_slice().len() {
         return Err(Refusal::Bad(StreamKind::TooMany));
     }
-    match payload_length(digits) {
+    match payload_length(text) {
         None => Err(Refusal::Bad(StreamKind::Hex)),
-        Some(15) => Ok(stream.with_short(value_of(digits))?),
+        Some(15) => Ok(stream.with_short(value_of(digits, text))?),
         Some(seen) => Err(too_long(seen)),
     }
 }
 
 /// The value of thirty digits.
-fn value_of(digits: &[u8]) -> Value
-    requires payload { IsSome (payload_in digits.now) }
-    requires thirty { length digits.now ≡ 30 }
-    ensures { payload_in digits.now ≡ Some result }
+fn value_of(digits: &Digits, payload: &[u8]) -> Value
+    requires payload { IsSome (payload_in payload.now) }
+    requires thirty { length payload.now ≡ 30 }
+    ensures { payload_in payload.now ≡ Some result }
 {
     let mut bytes = [0; 15];
-    decode_payload(digits, &mut bytes);
+    decode_payload(digits, payload, &mut bytes);
     Value { bytes }
 }
 
 /// The stream with the long of this payload.
 #[tactic(auto, unfolding(crate::specs::Reading::with_long))]
-fn with_long(alloc: Global, stream: Stream, payload: &[u8]) -> Result<Stream, Refusal<StreamKind>>
+fn with_long(
+    alloc: Global,
+    digits: &Digits,
+    stream: Stream,
+    payload: &[u8],
+) -> Result<Stream, Refusal<StreamKind>>
     ensures { Answers result (long_added stream payload.now) }
 {
     if !stream.coins.as_slice().is_empty() {
@@ -119,7 +130,7 @@ fn with_long(alloc: Global, stream: Stream, payload: &[u8]) -> Result<Stream, Re
     }
     match payload_length(payload) {
         None => Err(Refusal::Bad(StreamKind::Hex)),
-        Some(seen) if seen <= 3838 => Ok(stream.with_long(payload_bytes(alloc, payload)?)?),
+        Some(seen) if seen <= 3838 => Ok(stream.with_long(payload_bytes(alloc, digits, payload)?)?),
         Some(seen) => Err(too_long(seen)),
     }
 }

@@ -1,3 +1,4 @@
 mod FirstLine
 pub mod LineByLine
 pub mod PayloadDigits
+pub mod ByTable

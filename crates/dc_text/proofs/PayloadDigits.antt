@@ -27,16 +27,16 @@ payload_in-hex_text (b ∷ bytes) are =
     rw (digit_in-hex_digit (b / 16) (omega arith), digit_in-hex_digit (b % 16) (omega arith), payload_in-hex_text bytes (All-tail (λ b. b < 256) b bytes are), whole) refl
 
 -- the parts of a byte before others
-record AreParts (high low : Option ℕ) (rest : Option (List ℕ)) (bytes : List ℕ) : Type 0 where
-  first : ℕ
-  second : ℕ
-  others : List ℕ
-  is_high : high ≡ Some first
-  is_low : low ≡ Some second
-  is_rest : rest ≡ Some others
-  joined : (16 * first + second) ∷ others ≡ bytes
+pub record AreParts (high low : Option ℕ) (rest : Option (List ℕ)) (bytes : List ℕ) : Type 0 where
+  pub first : ℕ
+  pub second : ℕ
+  pub others : List ℕ
+  pub is_high : high ≡ Some first
+  pub is_low : low ≡ Some second
+  pub is_rest : rest ≡ Some others
+  pub joined : (16 * first + second) ∷ others ≡ bytes
 
-parts_of : (high low : Option ℕ) (rest : Option (List ℕ)) (bytes : List ℕ) → byte_before high low rest ≡ Some bytes → AreParts high low rest bytes
+pub parts_of : (high low : Option ℕ) (rest : Option (List ℕ)) (bytes : List ℕ) → byte_before high low rest ≡ Some bytes → AreParts high low rest bytes
 parts_of (Some h) (Some l) (Some others) bytes e = record { first = h; second = l; others = others; is_high = refl; is_low = refl; is_rest = refl; joined = cc }
 parts_of (Some h) (Some l) None bytes e = absurd cc
 parts_of (Some h) None rest bytes e = absurd cc
@@ -67,7 +67,7 @@ length-payload_in text bytes e = ap length (hex_text-payload_in text bytes e).1 
 
 -- ---- a text of digits
 
-there : (o : Option ℕ) → is_some o ≡ true → (d : ℕ) × (o ≡ Some d)
+pub there : (o : Option ℕ) → is_some o ≡ true → (d : ℕ) × (o ≡ Some d)
 there (Some d) e = (d, refl)
 there None e = absurd cc
 
@@ -145,7 +145,7 @@ decoded text bytes e =
     ] in
     ap decode_of (read.1 ∙ sym (encoded bytes small)) ∙ decode_of-encode_lower bytes small
 
-some_there : (o : Option (List ℕ)) → is_some o ≡ true → (bytes : List ℕ) × (o ≡ Some bytes)
+pub some_there : (o : Option (List ℕ)) → is_some o ≡ true → (bytes : List ℕ) × (o ≡ Some bytes)
 some_there (Some bytes) e = (bytes, refl)
 some_there None e = absurd cc
 

@@ -5,7 +5,7 @@ mod lines;
 mod payload;
 
 pub use lines::{first_line, told_line};
-pub use payload::{decode_payload, payload_bytes, payload_length};
+pub use payload::{Digits, decode_payload, payload_bytes, payload_length};
 
 #[cfg(test)]
 mod tests;

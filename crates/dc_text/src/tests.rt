@@ -44,16 +44,17 @@ fn payload(rt: HostRuntime) -> Result<(), Fail> {
     ] {
         assert_eq!(rt; payload_length(text.as_bytes()), due, "{text}");
     }
+    let digits = Digits::new();
     let text = b"00ff10".as_slice();
     if payload_length(text).is_some() {
-        let bytes = payload_bytes(rt.alloc(), text)
+        let bytes = payload_bytes(rt.alloc(), &digits, text)
             .ok()
             .ok_or("there is memory")?;
         assert_eq!(rt; bytes.as_slice(), [0, 255, 16].as_slice());
     }
     let mut out = [9; 3];
     if payload_length(text) == Some(3) {
-        decode_payload(text, &mut out);
+        decode_payload(&digits, text, &mut out);
     }
     assert_eq!(rt; out.as_slice(), [0, 255, 16].as_slice());
     Ok(())

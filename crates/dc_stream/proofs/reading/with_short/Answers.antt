@@ -8,11 +8,11 @@ use Rattle.dc_stream.proofs.reading.with_short.Goals as goal
 pub returns-in-None : goal.returns-in-None
 unfolding with_short
 returns-in-None c =
-    let none : payload_in c.args.digits.now ≡ None = no_payload (payload_in c.args.digits.now) c.in-None.ensures.counted in
+    let none : payload_in c.args.text.now ≡ None = no_payload (payload_in c.args.text.now) c.in-None.ensures.counted in
     grind (arith, common_steps)
 
 pub returns-in-Some : goal.returns-in-Some
 unfolding with_short
 returns-in-Some c =
-    let read = payload_of_length (payload_in c.args.digits.now) c.in-Some.seen c.in-Some.ensures.counted in
+    let read = payload_of_length (payload_in c.args.text.now) c.in-Some.seen c.in-Some.ensures.counted in
     grind (arith, common_steps)
