@@ -61,7 +61,6 @@ SumRan-kept file s s' o o' Done p = p.summed.read.kept
 SumRan-kept file s s' o o' SinkFault p = p.1.summed.read.kept
 SumRan-kept file s s' o o' other p = SummedFile-kept file s s' (Err other) p.1
 
-
 grown-nothing : (told : Option (List (List ℕ))) → told ≡ grown told []
 grown-nothing None = refl
 grown-nothing (Some xs) = ap Some (sym (append-nil xs))
