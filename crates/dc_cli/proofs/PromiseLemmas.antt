@@ -12,7 +12,7 @@ use Rattle.dc_cli.specs.Forms.{is_name, is_form, longest_begun}
 use Rattle.dc_cli.specs.Commands.{Asked, sum, Spells}
 use Rattle.dc_cli.specs.Summing.{transcript_limit, SummedFile, SumRan, Refused}
 use Rattle.dc_cli.specs.Ran.{Ran, RanCommand, CommandRan}
-use Rattle.dc_cli.specs.Promises.{Call, files_of, RefusesOtherWords, KeepsFiles, AsksInOrder, PrintsOnlyWhenDone, PrintsSums, limit_of, TellsName, TellsTheLast, MissesTheAbsent, RefusesTheLong, TellsTheFault, RefusesTheMalformed, HasCauses, Completes}
+use Rattle.dc_cli.specs.Promises.{Call, AsksFor, RefusesOtherWords, Keeps, KeepsFiles, AsksInOrder, PrintsOnlyWhenDone, PrintsSums, HasLimit, TellsName, TellsTheLast, MissesTheAbsent, RefusesTheLong, TellsTheFault, RefusesTheMalformed, HasCauses, Completes}
 use Rattle.dc_cli.specs.declared.outcome.Outcome.{Outcome}
 use Rattle.dc_cli.specs.declared.outcome.Outcome.TheVariants.{Done, Usage, Missing, TooLong, Malformed, ShelfFault, SinkFault, NoMemory}
 use Rattle.dc_cli.specs.declared.outcome.FileFault.TheVariants.{Transcript}
@@ -61,13 +61,6 @@ SumRan-kept file s s' o o' Done p = p.summed.read.kept
 SumRan-kept file s s' o o' SinkFault p = p.1.summed.read.kept
 SumRan-kept file s s' o o' other p = SummedFile-kept file s s' (Err other) p.1
 
-CommandRan-kept : (command : Asked) (s s' : ShelfState) (o o' : SinkState) (outcome : Outcome) → CommandRan command s s' o o' outcome → s'.holds ≡ s.holds
-CommandRan-kept (sum file) s s' o o' outcome p = SumRan-kept file s s' o o' outcome p
-
-pub keeps_files : (words : List (List ℕ)) (s s' : ShelfState) (o o' : SinkState) (outcome : Outcome) → Ran words s s' o o' outcome → s'.holds ≡ s.holds
-keeps_files words s s' o o' (Usage place) ran = ap (λ (x : ShelfState). x.holds) ran.shelf_stays
-keeps_files words s s' o o' other ran = CommandRan-kept ran.command s s' o o' other ran.ran
-
 grown-nothing : (told : Option (List (List ℕ))) → told ≡ grown told []
 grown-nothing None = refl
 grown-nothing (Some xs) = ap Some (sym (append-nil xs))
@@ -109,13 +102,22 @@ sum_ran_of : (words : List (List ℕ)) (file : List ℕ) (s s' : ShelfState) (o 
 sum_ran_of words file s s' o o' (Usage place) p ran = absurd (not_both words (sum file) p ran.no_form)
 sum_ran_of words file s s' o o' other p ran = sum_ran words file s s' o o' other p ran
 
-asked_front : (words : List (List ℕ)) (command : Asked) (s s' : ShelfState) (o o' : SinkState) (outcome : Outcome) → Spells words command → Ran words s s' o o' outcome → (names : List (List ℕ)) × IsFront names (files_of command) × (s'.asked ≡ grown s.asked names)
-asked_front words (sum file) s s' o o' outcome p ran = SumRan-asked file s s' o o' outcome (sum_ran_of words file s s' o o' outcome p ran)
+keeps_files : (words : List (List ℕ)) (command : Asked) (s s' : ShelfState) (o o' : SinkState) (outcome : Outcome) → Spells words command → Ran words s s' o o' outcome → Keeps command s s'
+keeps_files words (sum file) s s' o o' outcome p ran = SumRan-kept file s s' o o' outcome (sum_ran_of words file s s' o o' outcome p ran)
 
-asked_all : (words : List (List ℕ)) (command : Asked) (s s' : ShelfState) (o o' : SinkState) (outcome : Outcome) → Spells words command → outcome ≡ Done → Ran words s s' o o' outcome → s'.asked ≡ grown s.asked (files_of command)
+kept_unread : (words : List (List ℕ)) (s s' : ShelfState) (o o' : SinkState) (outcome : Outcome) → is_form words ≡ false → Ran words s s' o o' outcome → s'.holds ≡ s.holds
+kept_unread words s s' o o' (Usage place) refused ran = ap (λ (x : ShelfState). x.holds) ran.shelf_stays
+kept_unread words s s' o o' _ refused ran = absurd (not_both words ran.command ran.spelled refused)
+
+asked_front : (words : List (List ℕ)) (command : Asked) (s s' : ShelfState) (o o' : SinkState) (outcome : Outcome) → Spells words command → Ran words s s' o o' outcome
+    → (files : List (List ℕ)) × AsksFor s command files × ((names : List (List ℕ)) × IsFront names files × (s'.asked ≡ grown s.asked names))
+asked_front words (sum file) s s' o o' outcome p ran = (file ∷ [], refl, SumRan-asked file s s' o o' outcome (sum_ran_of words file s s' o o' outcome p ran))
+
+asked_all : (words : List (List ℕ)) (command : Asked) (s s' : ShelfState) (o o' : SinkState) (outcome : Outcome) → Spells words command → outcome ≡ Done → Ran words s s' o o' outcome
+    → (files : List (List ℕ)) × AsksFor s command files × (s'.asked ≡ grown s.asked files)
 asked_all words (sum file) s s' o o' outcome p e ran =
     let done : SumRan file s s' o o' Done = let P : Outcome → Type 0 = λ x. SumRan file s s' o o' x in subst P e (sum_ran_of words file s s' o o' outcome p ran) in
-    done.summed.read.asked
+    (file ∷ [], refl, done.summed.read.asked)
 
 asked_nothing : (words : List (List ℕ)) (s s' : ShelfState) (o o' : SinkState) (outcome : Outcome) → is_form words ≡ false → Ran words s s' o o' outcome → s'.asked ≡ s.asked
 asked_nothing words s s' o o' (Usage place) refused ran = ap (λ (x : ShelfState). x.asked) ran.shelf_stays
@@ -153,14 +155,12 @@ missing words s s' o o' outcome name e ran =
     let r : Ran words s s' o o' (Missing name) = subst P e ran in
     missing_cause r.command s s' o o' name r.ran
 
-long_cause : (words : List (List ℕ)) (command asked : Asked) (s s' : ShelfState) (o o' : SinkState) (name : List ℕ) → Spells words command → Spells words asked → CommandRan asked s s' o o' (TooLong name) → IsHeldAbove (s.holds name) (limit_of command name) ⊎ FailsUntold (s.holds name) s.faults s'.faults
-long_cause words (sum named) (sum file) s s' o o' name p q ran = rw ran.1.0 ran.1.1.answer
-
-too_long : (words : List (List ℕ)) (command : Asked) (s s' : ShelfState) (o o' : SinkState) (outcome : Outcome) (name : List ℕ) → Spells words command → outcome ≡ TooLong name → Ran words s s' o o' outcome → IsHeldAbove (s.holds name) (limit_of command name) ⊎ FailsUntold (s.holds name) s.faults s'.faults
-too_long words command s s' o o' outcome name p e ran =
-    let P : Outcome → Type 0 = λ x. Ran words s s' o o' x in
-    let r : Ran words s s' o o' (TooLong name) = subst P e ran in
-    long_cause words command r.command s s' o o' name p r.spelled r.ran
+too_long : (words : List (List ℕ)) (command : Asked) (s s' : ShelfState) (o o' : SinkState) (outcome : Outcome) (name : List ℕ) → Spells words command → outcome ≡ TooLong name → Ran words s s' o o' outcome
+    → (limit : ℕ) × HasLimit s command name limit × (IsHeldAbove (s.holds name) limit ⊎ FailsUntold (s.holds name) s.faults s'.faults)
+too_long words (sum file) s s' o o' outcome name p e ran =
+    let P : Outcome → Type 0 = λ x. SumRan file s s' o o' x in
+    let r : SumRan file s s' o o' (TooLong name) = subst P e (sum_ran_of words file s s' o o' outcome p ran) in
+    (transcript_limit, (r.1.0, refl), rw r.1.0 r.1.1.answer)
 
 fault_cause : (command : Asked) (s s' : ShelfState) (o o' : SinkState) (name bytes : List ℕ) (fault : TranscriptFault) → s.holds name ≡ held bytes → CommandRan command s s' o o' (Malformed name (Transcript fault)) → Refused bytes fault
 fault_cause (sum file) s s' o o' name bytes fault told ran =
@@ -277,7 +277,10 @@ RefusesOtherWords-run c ran = record {
 }
 
 pub KeepsFiles-run : (c : Call) → HasRun c → KeepsFiles c
-KeepsFiles-run c ran = keeps_files c.words c.shelf c.shelf' c.out c.out' c.outcome ran
+KeepsFiles-run c ran = record {
+  by = λ command p. keeps_files c.words command c.shelf c.shelf' c.out c.out' c.outcome p ran;
+  none = λ refused. kept_unread c.words c.shelf c.shelf' c.out c.out' c.outcome refused ran;
+}
 
 pub AsksInOrder-run : (c : Call) → HasRun c → AsksInOrder c
 AsksInOrder-run c ran = record {

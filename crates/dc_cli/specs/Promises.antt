@@ -27,23 +27,36 @@ pub record Call : Type 0 where
 abbrev pub call_of : List (List ℕ) → ShelfState → ShelfState → SinkState → SinkState → Outcome → Call
 call_of words before after printed_before printed_after ended = record { words = words; shelf = before; shelf' = after; out = printed_before; out' = printed_after; outcome = ended }
 
--- the files that the words ask for, in order
-abbrev pub files_of : Asked → List (List ℕ)
-files_of (sum file) = file ∷ []
+-- the files that a command asks for, in order; by what the shelf tells, since a file may name others
+abbrev pub AsksFor : ShelfState → Asked → List (List ℕ) → Type 0
+AsksFor shelf (sum file) files = files ≡ file ∷ []
 
 -- words that are no form are refused, and no others are
 pub record RefusesOtherWords (c : Call) : Type 0 where
   pub refused : is_form c.words ≡ false → c.outcome ≡ Usage (longest_begun c.words)
   pub only : (place : ℕ) → c.outcome ≡ Usage place → is_form c.words ≡ false
 
--- what each name holds stays
-abbrev pub KeepsFiles : Call → Type 0
-KeepsFiles c = c.shelf'.holds ≡ c.shelf.holds
+-- what a command leaves of what each name holds: all
+abbrev pub Keeps : Asked → ShelfState → ShelfState → Type 0
+Keeps (sum file) before after = after.holds ≡ before.holds
+
+-- what each name holds stays, but for what the command of the words writes
+pub record KeepsFiles (c : Call) : Type 0 where
+  pub by : (command : Asked) → Spells c.words command → Keeps command c.shelf c.shelf'
+  pub none : is_form c.words ≡ false → c.shelf'.holds ≡ c.shelf.holds
+
+-- the shelf was asked for a front of the files of the command
+abbrev pub AskedFront : Call → Asked → Type 0
+AskedFront c command = (files : List (List ℕ)) × AsksFor c.shelf command files × ((names : List (List ℕ)) × IsFront names files × (c.shelf'.asked ≡ grown c.shelf.asked names))
+
+-- the shelf was asked for all files of the command
+abbrev pub AskedAll : Call → Asked → Type 0
+AskedAll c command = (files : List (List ℕ)) × AsksFor c.shelf command files × (c.shelf'.asked ≡ grown c.shelf.asked files)
 
 -- the shelf was asked for a front of the files of the words, and for all of them where all was done
 pub record AsksInOrder (c : Call) : Type 0 where
-  pub front : (command : Asked) → Spells c.words command → (names : List (List ℕ)) × IsFront names (files_of command) × (c.shelf'.asked ≡ grown c.shelf.asked names)
-  pub whole : (command : Asked) → Spells c.words command → c.outcome ≡ Done → c.shelf'.asked ≡ grown c.shelf.asked (files_of command)
+  pub front : (command : Asked) → Spells c.words command → AskedFront c command
+  pub whole : (command : Asked) → Spells c.words command → c.outcome ≡ Done → AskedAll c command
   pub none : is_form c.words ≡ false → c.shelf'.asked ≡ c.shelf.asked
 
 -- nothing is printed but where all was done or the output failed
@@ -55,9 +68,9 @@ abbrev pub PrintsSums : Call → Type 0
 PrintsSums c = c.outcome ≡ Done → (file bytes : List ℕ) → Spells c.words (sum file) → c.shelf.holds file ≡ held bytes →
     (session : Recorded) × IsRecorded session × (bytes ≡ transcript_bytes session) × (c.out'.written ≡ grown c.out.written (words_text (superposed session)))
 
--- the most bytes that a file of a command may have
-abbrev pub limit_of : Asked → List ℕ → ℕ
-limit_of (sum file) name = transcript_limit
+-- a file that a command asks for, and the most bytes that it may have
+abbrev pub HasLimit : ShelfState → Asked → List ℕ → ℕ → Type 0
+HasLimit shelf (sum file) name limit = (name ≡ file) × (limit ≡ transcript_limit)
 
 -- the outcome tells a name
 abbrev pub TellsName : Outcome → List ℕ → Type 0
@@ -71,10 +84,10 @@ TellsTheLast c = (name : List ℕ) → TellsName c.outcome name → (front : Lis
 abbrev pub MissesTheAbsent : Call → Type 0
 MissesTheAbsent c = (name : List ℕ) → c.outcome ≡ Missing name → (c.shelf.holds name ≡ absent) ⊎ FailsUntold (c.shelf.holds name) c.shelf.faults c.shelf'.faults
 
--- a name is told as too long only where it holds more than its limit, or the shelf tells nothing and its faults rose
+-- a name is told as too long only where it is a file of the command and holds more than its limit, or the shelf tells nothing of it and its faults rose
 abbrev pub RefusesTheLong : Call → Type 0
 RefusesTheLong c = (command : Asked) (name : List ℕ) → Spells c.words command → c.outcome ≡ TooLong name →
-    IsHeldAbove (c.shelf.holds name) (limit_of command name) ⊎ FailsUntold (c.shelf.holds name) c.shelf.faults c.shelf'.faults
+    (limit : ℕ) × HasLimit c.shelf command name limit × (IsHeldAbove (c.shelf.holds name) limit ⊎ FailsUntold (c.shelf.holds name) c.shelf.faults c.shelf'.faults)
 
 -- a fault of a transcript is the first one of the bytes that the shelf tells of its name, which are the transcript of no session
 abbrev pub TellsTheFault : Call → Type 0

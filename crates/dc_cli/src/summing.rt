@@ -7,7 +7,7 @@ use crate::printing::put_words;
 use crate::reading::read_file;
 use dc_edge::{Shelf, Sink};
 use dc_field::{Refusal, Text, Words};
-use dc_superpose::{TranscriptFault, read_transcript, sums};
+use dc_superpose::{TranscriptFault, read_sums};
 use std::alloc::Global;
 
 /// The most bytes that a transcript may have.
@@ -38,11 +38,8 @@ fn sums_of_file<F: Shelf>(alloc: Global, file: &str, shelf: &mut F) -> Result<Wo
 fn sums_of_bytes(alloc: Global, file: &str, bytes: &[u8]) -> Result<Words, Outcome>
     ensures { SummedBytes file.now bytes.now result }
 {
-    match read_transcript(alloc, bytes) {
-        Ok(session) => match sums(alloc, &session) {
-            Ok(words) => Ok(words),
-            Err(_) => Err(Outcome::NoMemory),
-        },
+    match read_sums(alloc, bytes) {
+        Ok(words) => Ok(words),
         Err(Refusal::NoMemory) => Err(Outcome::NoMemory),
         Err(Refusal::Bad(fault)) => Err(malformed(alloc, file, fault)),
     }

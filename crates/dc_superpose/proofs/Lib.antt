@@ -1,3 +1,4 @@
 mod Rows
 pub mod Symbols
 pub mod Spelling
+pub mod Rounds

@@ -20,7 +20,8 @@ use Rattle.std.proofs.lemmas.Bool.{not-false}
 use Rattle.std.proofs.lemmas.List.Folds.{flat_map-map}
 use Rattle.dc_spec.proofs.ByteLemmas.{IsBytes, number_spelled, short_spelled, number_again, short_again, pieces, piece_of, length_of_pieces}
 use Rattle.dc_field.proofs.ReaderTests.{passed, within, limits}
-use Rattle.dc_superpose.proofs.Symbols.{word_in_piece, symbol-word_at, AreSymbols, words_are_read, words_read, length-words_at, AreWords-words_at}
+use Rattle.dc_superpose.specs.Pieces.{AreSymbols}
+use Rattle.dc_superpose.proofs.Symbols.{word_in_piece, symbol-word_at, words_are_read, words_read, length-words_at, AreWords-words_at}
 
 -- ---- words
 

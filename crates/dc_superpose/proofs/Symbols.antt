@@ -13,6 +13,7 @@ use Rattle.dc_field.specs.WordInBytes.{judged as word_judged, word_of_bytes}
 use Rattle.dc_field.proofs.FirstAbove.{small_where_none, none_where_small, first_is}
 use Rattle.dc_superpose.specs.declared.fault.TranscriptFault.TheVariants.{Symbol}
 use Rattle.dc_superpose.specs.Reading.{symbol_offset, symbols_at, words_at, judged, words_of}
+use Rattle.dc_superpose.specs.Pieces.{AreSymbols}
 
 -- ---- a piece of sixty-four bytes
 
@@ -68,10 +69,6 @@ word_refused b at n fault wide e =
     (lt, sym (symbol-word_at b at fault.symbol lt) ∙ seen, rw (← seen) (ltb-true _ _ first.1), λ l below. rw (← symbol-word_at b at l (omega arith)) (ltb-false _ _ (first.2 l below)))
 
 -- ---- all the words
-
--- the first numbers of a file are symbols
-pub record AreSymbols (b : List ℕ) (count : ℕ) : Type 0 where
-  pub small : (s : ℕ) → s < count → number_at b (symbol_offset s) ≤ 65536
 
 pub AreSymbols-more : (b : List ℕ) (i : ℕ) → AreSymbols b (16 * i) → ((l : ℕ) → l < 16 → number_at b (8 + 64 * i + 4 * l) ≤ 65536) → AreSymbols b (16 * (i + 1))
 AreSymbols-more b i good here = record {

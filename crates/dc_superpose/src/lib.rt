@@ -3,11 +3,14 @@
 
 mod fault;
 mod reading;
+mod sizes;
+mod summing;
 mod superposing;
 mod transcript;
 
 pub use fault::TranscriptFault;
 pub use reading::read_transcript;
+pub use summing::read_sums;
 pub use superposing::sums;
 pub use transcript::Transcript;
 

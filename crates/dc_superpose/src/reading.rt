@@ -1,13 +1,16 @@
 //! The file of a recorded session.
 
-ghost use Rattle.std.specs.Prelude.{◌≡◌, ◌*◌, ◌≤◌, ◌^◌, length, IfOk, Ok};
+ghost use Rattle.std.specs.Prelude.{◌≡◌, ◌+◌, ◌*◌, ◌≤◌, ◌^◌, length, IfOk, Ok};
 ghost use Rattle.dc_spec.specs.Recorded.{Recorded, IsRecorded, transcript_bytes};
 ghost use Rattle.dc_field.specs.Answers.{Answers};
-ghost use Rattle.dc_superpose.specs.Reading.{transcript_of, sized, body_of, words_of, due_length};
+ghost use Rattle.dc_superpose.specs.Reading.{transcript_of, words_of, due_length};
+ghost use Rattle.dc_superpose.specs.Sizes.{rest_of, AreSizes};
+ghost use Rattle.dc_superpose.specs.Pieces.{AreSymbols, ReadsWords};
 
 use crate::fault::TranscriptFault;
+use crate::sizes::{Sizes, read_sizes};
 use crate::transcript::Transcript;
-use dc_field::{Refusal, Words, read_word};
+use dc_field::{Refusal, Word, Words, read_word};
 use std::alloc::Global;
 
 /// The session that a file holds. Memory is taken only once the file is as long as its header
@@ -20,76 +23,33 @@ pub fn read_transcript(alloc: Global, b: &[u8]) -> Result<Transcript, Refusal<Tr
     // What is spelled so is read.
     ensures only { (t : Recorded) → IsRecorded t → b.now ≡ transcript_bytes t → Answers result (Ok t) }
 {
-    read_header(alloc, b)
+    read_in_order(alloc, b)
 }
 
-/// Judges the first eight bytes, then reads on.
-#[tactic(auto, unfolding(crate::specs::Reading::transcript_of))]
-fn read_header(alloc: Global, b: &[u8]) -> Result<Transcript, Refusal<TranscriptFault>>
+/// Judges the header and the length, then reads on.
+fn read_in_order(alloc: Global, b: &[u8]) -> Result<Transcript, Refusal<TranscriptFault>>
     ensures { Answers result (transcript_of b.now) }
 {
-    if b.len() < 8 {
-        return Err(Refusal::Bad(TranscriptFault::Truncated {
-            at: b.len() as u64,
-            need: 8,
-        }));
+    match read_sizes(b) {
+        Ok(sizes) => read_body(alloc, b, sizes),
+        Err(fault) => Err(Refusal::Bad(fault)),
     }
-    if !b.starts_with(b"DCT1") {
-        return Err(Refusal::Bad(TranscriptFault::Magic));
-    }
-    let stations = u16::from_be_bytes([b[4], b[5]]);
-    let rounds = u16::from_be_bytes([b[6], b[7]]);
-    read_sized(alloc, b, stations, rounds)
 }
 
-/// Judges the two numbers of the header, then reads on.
-#[tactic(auto, unfolding(crate::specs::Reading::sized))]
-fn read_sized(
-    alloc: Global,
-    b: &[u8],
-    stations: u16,
-    rounds: u16,
-) -> Result<Transcript, Refusal<TranscriptFault>>
-    ensures { Answers result (sized b.now stations rounds) }
+/// Judges the words, then the end.
+fn read_body(alloc: Global, b: &[u8], sizes: Sizes) -> Result<Transcript, Refusal<TranscriptFault>>
+    requires { AreSizes b.now sizes }
+    ensures { Answers result (rest_of b.now (Ok sizes)) }
 {
-    if stations == 0 || 256 < stations {
-        return Err(Refusal::Bad(TranscriptFault::Stations { seen: stations }));
-    }
-    if rounds == 0 || 4096 < rounds {
-        return Err(Refusal::Bad(TranscriptFault::Words { seen: rounds }));
-    }
-    read_body(alloc, b, stations, rounds)
-}
-
-/// Judges the length, then the words, then the end.
-#[tactic(auto, unfolding(crate::specs::Reading::body_of))]
-fn read_body(
-    alloc: Global,
-    b: &[u8],
-    stations: u16,
-    rounds: u16,
-) -> Result<Transcript, Refusal<TranscriptFault>>
-    requires some_stations { 1 ≤ stations }
-    requires most_stations { stations ≤ 256 }
-    requires some_rounds { 1 ≤ rounds }
-    requires most_rounds { rounds ≤ 4096 }
-    ensures { Answers result (body_of b.now stations rounds) }
-{
-    let count = rounds as usize * stations as usize;
+    let count = sizes.rounds as usize * sizes.stations as usize;
     let due = 8 + 64 * count;
-    if b.len() < due {
-        return Err(Refusal::Bad(TranscriptFault::Truncated {
-            at: b.len() as u64,
-            need: due as u64,
-        }));
-    }
     let words = read_words(alloc, b, count)?;
     if due < b.len() {
         return Err(Refusal::Bad(TranscriptFault::Rest { at: due as u64 }));
     }
     Ok(Transcript {
-        stations,
-        rounds,
+        stations: sizes.stations,
+        rounds: sizes.rounds,
         words,
     })
 }
@@ -101,8 +61,27 @@ fn read_words(alloc: Global, b: &[u8], count: usize) -> Result<Words, Refusal<Tr
     ensures { Answers result (words_of b.now count) }
 {
     let mut words = Vec::with_capacity(alloc, count)?;
-    for i in 0..count {
-        let at = 8 + 64 * i;
+    match put_words(b, 0, count, &mut words) {
+        Ok(()) => Ok(Words::from_vec(words)),
+        Err(refusal) => Err(refusal),
+    }
+}
+
+/// Puts the words from word number `first` on in place of what a list holds.
+pub fn put_words(
+    b: &[u8],
+    first: usize,
+    count: usize,
+    words: &mut Vec<Word>,
+) -> Result<(), Refusal<TranscriptFault>>
+    requires most { first + count ≤ 2 ^ 20 }
+    requires long_enough { due_length (first + count) ≤ length b.now }
+    requires good { AreSymbols b.now (16 * first) }
+    ensures { ReadsWords b.now first count result words.new.items }
+{
+    words.clear();
+    for j in 0..count {
+        let at = 8 + 64 * (first + j);
         match read_word(&b[at..at + 64]) {
             Ok(word) => words.push(word)?,
             Err(fault) => {
@@ -113,5 +92,5 @@ fn read_words(alloc: Global, b: &[u8], count: usize) -> Result<Words, Refusal<Tr
             }
         }
     }
-    Ok(Words::from_vec(words))
+    Ok(())
 }

@@ -29,6 +29,13 @@ fn fault_of(alloc: Global, b: &[u8]) -> Option<TranscriptFault> {
     }
 }
 
+fn fault_of_sums(alloc: Global, b: &[u8]) -> Option<TranscriptFault> {
+    match read_sums(alloc, b) {
+        Err(Refusal::Bad(fault)) => Some(fault),
+        _ => None,
+    }
+}
+
 #[test]
 fn two_words_are_read_and_cancel(rt: HostRuntime) -> Result<(), Fail> {
     let b = two_words(rt.alloc())?;
@@ -72,6 +79,11 @@ fn each_fault(rt: HostRuntime) -> Result<(), Fail> {
             b[place] = byte;
         }
         assert_eq!(rt; fault_of(rt.alloc(), &b), Some(due), "{byte} at {place}");
+        assert_eq!(rt;
+            fault_of_sums(rt.alloc(), &b),
+            Some(due),
+            "{byte} at {place}"
+        );
     }
     Ok(())
 }
@@ -101,14 +113,17 @@ fn two_rounds_of_two(rt: HostRuntime) -> Result<(), Fail> {
     }
     let b = file(rt.alloc(), 2, 2, &symbols)?;
     let t = read_transcript(rt.alloc(), &b).ok().ok_or("it is a file")?;
-    let sums = sums(rt.alloc(), &t).ok().ok_or("there is memory")?;
-    let mut some = Vec::new(rt.alloc());
-    for w in sums.as_slice() {
-        some.push((w.get(0).number(), w.get(1).number(), w.get(15).number()))?;
+    let of_session = sums(rt.alloc(), &t).ok().ok_or("there is memory")?;
+    let of_file = read_sums(rt.alloc(), &b).ok().ok_or("it is a file")?;
+    for sums in [of_session, of_file] {
+        let mut some = Vec::new(rt.alloc());
+        for w in sums.as_slice() {
+            some.push((w.get(0).number(), w.get(1).number(), w.get(15).number()))?;
+        }
+        assert_eq!(rt;
+            some.as_slice(),
+            [(65519, 65517, 65489), (65455, 65453, 65425)].as_slice()
+        );
     }
-    assert_eq!(rt;
-        some.as_slice(),
-        [(65519, 65517, 65489), (65455, 65453, 65425)].as_slice()
-    );
     Ok(())
 }

@@ -24,19 +24,20 @@ struct Ended {
     err: Vec<u8>,
 }
 
-/// Calls `dcnet` with words, over a shelf that holds `held` as `t.bin` and a sink of this room.
+/// Calls `dcnet` with words, over a shelf that holds `held` as `t.bin`, and sinks of these rooms: that of output, then
+/// that of fault lines.
 fn call<R: Threads + Sync + AllocGlobal>(
     rt: &R,
     words: &[&str],
     held: &[u8],
     shelf_fails: &[u32],
-    room: u32,
+    rooms: (u32, u32),
 ) -> Result<Ended, NoMemory> {
     let alloc = rt.alloc();
     let mut shelf = MemoryShelf::new(alloc, shelf_fails)?;
     shelf.hold(alloc, "t.bin", held)?;
-    let mut out = MemorySink::new(alloc, room, &[])?;
-    let mut err = MemorySink::new(alloc, 1000, &[])?;
+    let mut out = MemorySink::new(alloc, rooms.0, &[])?;
+    let mut err = MemorySink::new(alloc, rooms.1, &[])?;
     let mut line = Vec::new(alloc);
     for word in words {
         line.push(String::from_str(alloc, word)?)?;
@@ -58,7 +59,7 @@ fn ends<R: Threads + Sync + AllocGlobal + Abort>(
     out: &[u8],
     err: &[u8],
 ) -> Result<(), NoMemory> {
-    let ended = call(rt, words, held, &[], 1000)?;
+    let ended = call(rt, words, held, &[], (1000, 1000))?;
     assert_eq!(rt; ended.status, status);
     assert_eq!(rt; ended.out.as_slice(), out);
     assert_eq!(rt; ended.err.as_slice(), err);
@@ -82,66 +83,64 @@ fn the_sum_of_a_transcript_is_printed(rt: HostRuntime) -> Result<(), Fail> {
     Ok(())
 }
 
+/// Asserts that a file is malformed, with this fault line.
+fn is_malformed<R: Threads + Sync + AllocGlobal + Abort>(
+    rt: &R,
+    held: &[u8],
+    err: &[u8],
+) -> Result<(), NoMemory> {
+    ends(rt, &["sum", "t.bin"], held, 5, b"", err)
+}
+
+/// Asserts that words are no form, with this fault line.
+fn is_no_form<R: Threads + Sync + AllocGlobal + Abort>(
+    rt: &R,
+    words: &[&str],
+    err: &[u8],
+) -> Result<(), NoMemory> {
+    ends(rt, words, TRANSCRIPT, 2, b"", err)
+}
+
 #[test]
 fn a_bad_transcript_is_told_by_its_first_fault(rt: HostRuntime) -> Result<(), Fail> {
     let bad_symbol = changed(&rt, 136, 1)?;
-    ends(
+    is_malformed(
         &rt,
-        &["sum", "t.bin"],
         &bad_symbol,
-        5,
-        b"",
         b"dcnet: t.bin: malformed: symbol at=8 seen=65537\n",
     )?;
     let cut = changed(&rt, 135, 0)?;
-    ends(
+    is_malformed(
         &rt,
-        &["sum", "t.bin"],
         &cut,
-        5,
-        b"",
         b"dcnet: t.bin: malformed: truncated at=135 need=136\n",
     )?;
     let mut longer = changed(&rt, 136, 0)?;
     longer.push(7)?;
-    ends(
+    is_malformed(&rt, &longer, b"dcnet: t.bin: malformed: rest at=136\n")?;
+    Ok(())
+}
+
+#[test]
+fn a_bad_header_is_told_by_its_first_fault(rt: HostRuntime) -> Result<(), Fail> {
+    is_malformed(
         &rt,
-        &["sum", "t.bin"],
-        &longer,
-        5,
-        b"",
-        b"dcnet: t.bin: malformed: rest at=136\n",
-    )?;
-    ends(
-        &rt,
-        &["sum", "t.bin"],
-        b"",
-        5,
         b"",
         b"dcnet: t.bin: malformed: truncated at=0 need=8\n",
     )?;
-    ends(
+    is_malformed(
         &rt,
-        &["sum", "t.bin"],
         b"DCT2\0\x02\0\x01",
-        5,
-        b"",
         b"dcnet: t.bin: malformed: magic\n",
     )?;
-    ends(
+    is_malformed(
         &rt,
-        &["sum", "t.bin"],
         b"DCT1\x01\x01\0\x01",
-        5,
-        b"",
         b"dcnet: t.bin: malformed: stations seen=257\n",
     )?;
-    ends(
+    is_malformed(
         &rt,
-        &["sum", "t.bin"],
         b"DCT1\0\x02\0\0",
-        5,
-        b"",
         b"dcnet: t.bin: malformed: words seen=0\n",
     )?;
     Ok(())
@@ -149,68 +148,38 @@ fn a_bad_transcript_is_told_by_its_first_fault(rt: HostRuntime) -> Result<(), Fa
 
 #[test]
 fn words_that_are_no_form_are_told_by_their_place(rt: HostRuntime) -> Result<(), Fail> {
-    ends(&rt, &[], TRANSCRIPT, 2, b"", b"dcnet: usage: word 0\n")?;
-    ends(
-        &rt,
-        &["frob"],
-        TRANSCRIPT,
-        2,
-        b"",
-        b"dcnet: usage: word 0\n",
-    )?;
-    ends(&rt, &["sum"], TRANSCRIPT, 2, b"", b"dcnet: usage: word 1\n")?;
-    ends(
-        &rt,
-        &["sum", "-t"],
-        TRANSCRIPT,
-        2,
-        b"",
-        b"dcnet: usage: word 1\n",
-    )?;
-    ends(
-        &rt,
-        &["sum", ""],
-        TRANSCRIPT,
-        2,
-        b"",
-        b"dcnet: usage: word 1\n",
-    )?;
-    ends(
-        &rt,
-        &["sum", "a", "b"],
-        TRANSCRIPT,
-        2,
-        b"",
-        b"dcnet: usage: word 2\n",
-    )?;
-    ends(
-        &rt,
-        &["--help"],
-        TRANSCRIPT,
-        2,
-        b"",
-        b"dcnet: usage: word 0\n",
-    )?;
+    is_no_form(&rt, &[], b"dcnet: usage: word 0\n")?;
+    is_no_form(&rt, &["frob"], b"dcnet: usage: word 0\n")?;
+    is_no_form(&rt, &["--help"], b"dcnet: usage: word 0\n")?;
+    is_no_form(&rt, &["Sum", "t.bin"], b"dcnet: usage: word 0\n")?;
+    is_no_form(&rt, &["sum"], b"dcnet: usage: word 1\n")?;
+    is_no_form(&rt, &["sum", "-t"], b"dcnet: usage: word 1\n")?;
+    is_no_form(&rt, &["sum", ""], b"dcnet: usage: word 1\n")?;
+    is_no_form(&rt, &["sum", "-", "b"], b"dcnet: usage: word 1\n")?;
+    is_no_form(&rt, &["sum", "a", "b"], b"dcnet: usage: word 2\n")?;
     Ok(())
 }
 
 #[test]
 fn a_fault_of_the_outside_ends_the_call(rt: HostRuntime) -> Result<(), Fail> {
-    ends(
-        &rt,
-        &["sum", "no.bin"],
-        TRANSCRIPT,
-        3,
-        b"",
-        b"dcnet: no.bin: missing\n",
-    )?;
-    let failed = call(&rt, &["sum", "t.bin"], TRANSCRIPT, &[0], 1000)?;
+    let missing = b"dcnet: no.bin: missing\n";
+    ends(&rt, &["sum", "no.bin"], TRANSCRIPT, 3, b"", missing)?;
+    let failed = call(&rt, &["sum", "t.bin"], TRANSCRIPT, &[0], (1000, 1000))?;
     assert_eq!(rt; failed.status, 8);
     assert_eq!(rt; failed.out.as_slice(), b"".as_slice());
     assert_eq!(rt; failed.err.as_slice(), b"dcnet: file fault\n".as_slice());
-    let full = call(&rt, &["sum", "t.bin"], TRANSCRIPT, &[], 10)?;
+    let full = call(&rt, &["sum", "t.bin"], TRANSCRIPT, &[], (10, 1000))?;
     assert_eq!(rt; full.status, 9);
     assert_eq!(rt; full.out.as_slice(), b"0000000000".as_slice());
     assert_eq!(rt; full.err.as_slice(), b"dcnet: output fault\n".as_slice());
+    Ok(())
+}
+
+#[test]
+fn a_fault_of_the_sink_of_faults_changes_nothing(rt: HostRuntime) -> Result<(), Fail> {
+    let cut = call(&rt, &["sum"], TRANSCRIPT, &[], (1000, 10))?;
+    assert_eq!(rt; cut.status, 2);
+    assert_eq!(rt; cut.out.as_slice(), b"".as_slice());
+    assert_eq!(rt; cut.err.as_slice(), b"dcnet: usa".as_slice());
     Ok(())
 }

@@ -1,0 +1,69 @@
+//! How large a recorded session is, by the header and the length of its file.
+
+ghost use Rattle.std.specs.Prelude.{◌≡◌, ◌*◌, ◌≤◌, IfOk};
+ghost use Rattle.dc_superpose.specs.Reading.{transcript_of, sized, body_of};
+ghost use Rattle.dc_superpose.specs.Sizes.{rest_of, AreSizes};
+
+use crate::fault::TranscriptFault;
+
+/// How many stations and rounds a session has.
+#[derive(Clone, Copy)]
+pub struct Sizes {
+    pub stations: u16,
+    pub rounds: u16,
+}
+
+/// The sizes of the session that a file holds, where its first eight bytes and its length pass their tests.
+#[tactic(auto, unfolding(crate::specs::Reading::transcript_of))]
+pub fn read_sizes(b: &[u8]) -> Result<Sizes, TranscriptFault>
+    ensures rest { rest_of b.now result ≡ transcript_of b.now }
+    ensures limits { IfOk result (λ sizes. AreSizes b.now sizes) }
+{
+    if b.len() < 8 {
+        return Err(TranscriptFault::Truncated {
+            at: b.len() as u64,
+            need: 8,
+        });
+    }
+    if !b.starts_with(b"DCT1") {
+        return Err(TranscriptFault::Magic);
+    }
+    let stations = u16::from_be_bytes([b[4], b[5]]);
+    let rounds = u16::from_be_bytes([b[6], b[7]]);
+    within_limits(b, stations, rounds)
+}
+
+/// Judges the two numbers of the header, then the length.
+#[tactic(auto, unfolding(crate::specs::Reading::sized))]
+fn within_limits(b: &[u8], stations: u16, rounds: u16) -> Result<Sizes, TranscriptFault>
+    ensures rest { rest_of b.now result ≡ sized b.now stations rounds }
+    ensures limits { IfOk result (λ sizes. AreSizes b.now sizes) }
+{
+    if stations == 0 || 256 < stations {
+        return Err(TranscriptFault::Stations { seen: stations });
+    }
+    if rounds == 0 || 4096 < rounds {
+        return Err(TranscriptFault::Words { seen: rounds });
+    }
+    long_enough(b, stations, rounds)
+}
+
+/// Judges the length.
+#[tactic(auto, unfolding(crate::specs::Reading::body_of))]
+fn long_enough(b: &[u8], stations: u16, rounds: u16) -> Result<Sizes, TranscriptFault>
+    requires some_stations { 1 ≤ stations }
+    requires most_stations { stations ≤ 256 }
+    requires some_rounds { 1 ≤ rounds }
+    requires most_rounds { rounds ≤ 4096 }
+    ensures rest { rest_of b.now result ≡ body_of b.now stations rounds }
+    ensures limits { IfOk result (λ sizes. AreSizes b.now sizes) }
+{
+    let due = 8 + 64 * (rounds as usize * stations as usize);
+    if b.len() < due {
+        return Err(TranscriptFault::Truncated {
+            at: b.len() as u64,
+            need: due as u64,
+        });
+    }
+    Ok(Sizes { stations, rounds })
+}

@@ -1,0 +1,64 @@
+//! Superposed words straight from a file.
+
+ghost use Rattle.std.specs.Prelude.{◌≡◌, ◌*◌, Ok};
+ghost use Rattle.dc_spec.specs.Recorded.{Recorded, IsRecorded, transcript_bytes, superposed};
+ghost use Rattle.dc_field.specs.Answers.{Answers};
+ghost use Rattle.dc_superpose.specs.Reading.{transcript_of, words_of};
+ghost use Rattle.dc_superpose.specs.Sizes.{rest_of, AreSizes, sums_of, summed, GivesSums};
+
+use crate::fault::TranscriptFault;
+use crate::reading::put_words;
+use crate::sizes::{Sizes, read_sizes};
+use dc_field::{Refusal, Word, Words};
+use std::alloc::Global;
+
+/// The superposed words of the session that a file holds: `sums` of what `read_transcript` reads, with room for the
+/// words of one round at a time.
+pub fn read_sums(alloc: Global, b: &[u8]) -> Result<Words, Refusal<TranscriptFault>>
+    // The superposed words of the session that is spelled so, or the first fault by the order of the tests.
+    ensures sums { GivesSums b.now result }
+    // Of what is spelled so the superposed words are had.
+    ensures only { (t : Recorded) → IsRecorded t → b.now ≡ transcript_bytes t → Answers result (Ok (superposed t)) }
+{
+    sum_in_order(alloc, b)
+}
+
+/// Judges the header and the length, then sums.
+fn sum_in_order(alloc: Global, b: &[u8]) -> Result<Words, Refusal<TranscriptFault>>
+    ensures { Answers result (sums_of (transcript_of b.now)) }
+{
+    match read_sizes(b) {
+        Ok(sizes) => sum_body(alloc, b, sizes),
+        Err(fault) => Err(Refusal::Bad(fault)),
+    }
+}
+
+/// Judges the words and sums them round by round, then judges the end.
+fn sum_body(alloc: Global, b: &[u8], sizes: Sizes) -> Result<Words, Refusal<TranscriptFault>>
+    requires { AreSizes b.now sizes }
+    ensures { Answers result (sums_of (rest_of b.now (Ok sizes))) }
+{
+    let due = 8 + 64 * (sizes.rounds as usize * sizes.stations as usize);
+    let sums = sum_rounds(alloc, b, sizes)?;
+    if due < b.len() {
+        return Err(Refusal::Bad(TranscriptFault::Rest { at: due as u64 }));
+    }
+    Ok(sums)
+}
+
+/// For each round the sum of its words, each symbol tested.
+fn sum_rounds(alloc: Global, b: &[u8], sizes: Sizes) -> Result<Words, Refusal<TranscriptFault>>
+    requires { AreSizes b.now sizes }
+    ensures { Answers result (summed sizes (words_of b.now (sizes.rounds * sizes.stations))) }
+{
+    let stations = sizes.stations as usize;
+    let mut sums = Vec::with_capacity(alloc, sizes.rounds as usize)?;
+    let mut round = Vec::with_capacity(alloc, stations)?;
+    for r in 0..sizes.rounds as usize {
+        match put_words(b, r * stations, stations, &mut round) {
+            Ok(()) => sums.push(Word::sum(round.as_slice()))?,
+            Err(refusal) => return Err(refusal),
+        }
+    }
+    Ok(Words::from_vec(sums))
+}
