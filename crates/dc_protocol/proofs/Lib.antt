@@ -29,6 +29,7 @@ pub mod MessageBursts
 pub mod WholeBursts
 pub mod OpenBursts
 pub mod MessageOrVoid
+pub mod GoingOn
 pub mod Pushes
 pub mod FewLeaves
 pub mod MoreLeaves

@@ -181,19 +181,19 @@ each-push P [] x all last = (last, tt)
 each-push P (y ∷ xs) x all last = (all.0, each-push P xs x all.1 last)
 
 -- words that end with their last one, where the words before it did not end
-ends-now : (test : List (List ℕ) → Bool) (words : List (List ℕ)) (word : List ℕ) → NotYet test words → test (words ++ word ∷ []) ≡ true → EndsWith test (words ++ word ∷ [])
+pub ends-now : (test : List (List ℕ) → Bool) (words : List (List ℕ)) (word : List ℕ) → NotYet test words → test (words ++ word ∷ []) ≡ true → EndsWith test (words ++ word ∷ [])
 ends-now test words word open_still e = record {
   ended = e;
   before = λ front next rest is. let split = split_before words word front next rest is in open_still front split.0 split.1;
 }
 
 -- one more word with which they still do not end
-open-still : (test : List (List ℕ) → Bool) (words : List (List ℕ)) (word : List ℕ) → NotYet test words → test (words ++ word ∷ []) ≡ false → NotYet test (words ++ word ∷ [])
+pub open-still : (test : List (List ℕ) → Bool) (words : List (List ℕ)) (word : List ℕ) → NotYet test words → test (words ++ word ∷ []) ≡ false → NotYet test (words ++ word ∷ [])
 open-still test words word open_still e front [] is = ap test (sym (append-nil front) ∙ sym is) ∙ e
 open-still test words word open_still e front (next ∷ rest) is = let split = split_before words word front next rest is in open_still front split.0 split.1
 
 -- nothing has ended yet where no word is there
-nothing-open : (left : List ℕ) → NotYet (is_next left) []
+pub nothing-open : (left : List ℕ) → NotYet (is_next left) []
 nothing-open left [] rest is = nothing_yet left
 nothing-open left (f ∷ front) rest is = absurd (cons≢nil (sym is))
 

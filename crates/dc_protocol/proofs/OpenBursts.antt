@@ -57,7 +57,7 @@ not-one : (words : List (List ℕ)) → NotYet is_burst words → (i : ℕ) → 
 not-one words still i lt one = (is-open (take (i + 1) words) (still (take (i + 1) words) (drop (i + 1) words) (sym (take-append-drop (i + 1) words)))).not_last (front-count words i lt ∙ one)
 
 -- each word of an open burst passes
-open-passes : (words : List (List ℕ)) → NotYet is_burst words → (i : ℕ) → i < length words → Passes words i
+pub open-passes : (words : List (List ℕ)) → NotYet is_burst words → (i : ℕ) → i < length words → Passes words i
 open-passes words still i lt = passes words i ((is-open words (still words [] (sym (append-nil words)))).clean i lt)
 
 -- a number above 0 that is not 1

@@ -80,7 +80,7 @@ whole-ends words out whole =
     )
 
 -- an answer that breaks a check is what is put
-put-breaks : (word : List ℕ) (fault : EpochFault) (t : Tree) (place : Ranged) → current t ≡ Some place → answered place.group place.low place.high word ≡ Err fault → put word t ≡ Some (Err fault)
+pub put-breaks : (word : List ℕ) (fault : EpochFault) (t : Tree) (place : Ranged) → current t ≡ Some place → answered place.group place.low place.high word ≡ Err fault → put word t ≡ Some (Err fault)
 unfolding put current
 put-breaks word fault (unsplit group low high) place is broken = by_count (nat_lt group.count 2) is
   where
@@ -132,7 +132,7 @@ void-after root group front t word rest fault is takes broken =
     ∙ (rw broken (void-stays (come_out t) fault rest))
 
 -- no list is split after its end
-nil-split : (front : List (List ℕ)) (word : List ℕ) (rest : List (List ℕ)) → [] ≡ front ++ word ∷ rest → ⊥
+pub nil-split : (front : List (List ℕ)) (word : List ℕ) (rest : List (List ℕ)) → [] ≡ front ++ word ∷ rest → ⊥
 nil-split [] word rest e = cons≢nil (sym e)
 nil-split (f ∷ front) word rest e = cons≢nil (sym e)
 

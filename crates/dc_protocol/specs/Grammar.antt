@@ -4,7 +4,7 @@ use Rattle.std.specs.List.{AllByRecursion}
 use Rattle.dc_spec.specs.Words.{AreWords}
 use Rattle.dc_protocol.specs.Bursts.{IsMessageBurst, BurstFault, fault_at, burst_of, gave, void_burst, has_ended}
 use Rattle.dc_protocol.specs.Epochs.{epoch_of, is_over}
-use Rattle.dc_protocol.specs.Cycles.{Cycle, History, granted, history_of, history_words}
+use Rattle.dc_protocol.specs.Cycles.{Cycle, History, granted, cycle_words, history_of, history_words}
 
 -- a test fails on each front of these words, themselves included
 abbrev pub NotYet : (List (List ℕ) → Bool) → List (List ℕ) → Type 0
@@ -85,3 +85,11 @@ pub record IsCyclesInOneWay (words : List (List ℕ)) : Type 0 where
   pub is_history : IsHistory (history_of words)
   pub spells : history_words (history_of words) ≡ words
   pub only : (other : History) → IsHistory other → history_words other ≡ words → other ≡ history_of words
+
+-- words and at least one more that are all words of a whole cycle
+pub record IsProperPrefixOfWhole (words : List (List ℕ)) : Type 0 where
+  pub whole : Cycle
+  pub is_whole : IsWholeCycle whole
+  pub next : List ℕ
+  pub more : List (List ℕ)
+  pub goes_on : cycle_words whole ≡ words ++ next ∷ more

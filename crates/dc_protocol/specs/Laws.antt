@@ -5,13 +5,22 @@ use Rattle.dc_protocol.specs.Values.{number_of, word_count}
 use Rattle.dc_protocol.specs.Groups.{total}
 use Rattle.dc_protocol.specs.Bursts.{IsMessageBurst}
 use Rattle.dc_protocol.specs.Epochs.{Leaf, Tree, unsplit, alike, parts, resolving, epoch_of, leaves, leaves_at}
+use Rattle.dc_protocol.specs.Cycles.{Cycle, cycle_words}
 use Rattle.dc_protocol.specs.Stations.{log_of, sent_of}
 use Rattle.dc_protocol.specs.Resolving.{IsWholeEpoch, IsWholeOrVoid}
-use Rattle.dc_protocol.specs.Grammar.{IsCyclesInOneWay, IsMessageOrVoid}
+use Rattle.dc_protocol.specs.Grammar.{IsCyclesInOneWay, IsMessageOrVoid, IsBegunCycle, IsProperPrefixOfWhole}
 
 -- every list of words is whole cycles and then a proper prefix of one, in just one way
 abbrev pub EveryHistoryIsCyclesInOneWay : Type 0
 EveryHistoryIsCyclesInOneWay = (words : List (List ℕ)) → IsCyclesInOneWay words
+
+-- the words of a begun cycle are a proper prefix of a whole one
+abbrev pub EveryBegunCycleGoesOn : Type 0
+EveryBegunCycleGoesOn = (cycle : Cycle) → IsBegunCycle cycle → IsProperPrefixOfWhole (cycle_words cycle)
+
+-- a proper prefix of a whole cycle, of one word or more, is the words of a begun one
+abbrev pub EveryProperPrefixIsBegun : Type 0
+EveryProperPrefixIsBegun = (word : List ℕ) (words : List (List ℕ)) → IsProperPrefixOfWhole (word ∷ words) → (cycle : Cycle) × IsBegunCycle cycle × (cycle_words cycle ≡ word ∷ words)
 
 -- an ended burst of words of sixteen symbols is a message or void and not both
 abbrev pub EveryBurstIsMessageOrVoid : Type 0

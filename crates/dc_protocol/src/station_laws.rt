@@ -1,11 +1,24 @@
 //! Laws of one station's protocol: functions that do nothing, whose contracts are the laws.
 
-ghost use Rattle.dc_protocol.specs.Laws.{EveryBurstIsMessageOrVoid, EveryHistoryIsCyclesInOneWay, EveryEpochIsWholeOrVoid, LeavesAddUp, LeavesAreFew, OnlyRootsAreEmpty, MessagesFit, LeavesGrow, LogsFit};
+ghost use Rattle.dc_protocol.specs.Laws.{EveryBurstIsMessageOrVoid, EveryHistoryIsCyclesInOneWay, EveryBegunCycleGoesOn, EveryProperPrefixIsBegun, EveryEpochIsWholeOrVoid, LeavesAddUp, LeavesAreFew, OnlyRootsAreEmpty, MessagesFit, LeavesGrow, LogsFit};
 
 /// A session is cycles one after the other, the last of which may be cut off, and in just one way.
 #[tactic(auto, using(crate::proofs::OneWay::cycles_in_one_way))]
 pub fn every_history_is_cycles_in_one_way()
     ensures { EveryHistoryIsCyclesInOneWay }
+{}
+
+/// A begun cycle is cut off and no more: its words are a proper prefix of a whole cycle.
+#[tactic(auto, using(crate::proofs::GoingOn::begun_goes_on))]
+pub fn every_begun_cycle_goes_on()
+    ensures { EveryBegunCycleGoesOn }
+{}
+
+/// Wherever a whole cycle is cut off, after its first word or later, what stands before the cut is
+/// the words of a begun cycle.
+#[tactic(auto, using(crate::proofs::GoingOn::prefix_is_begun))]
+pub fn every_proper_prefix_is_begun()
+    ensures { EveryProperPrefixIsBegun }
 {}
 
 /// An ended burst is a message burst or a void one and not both, and it is what the computed burst
