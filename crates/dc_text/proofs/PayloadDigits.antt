@@ -149,19 +149,6 @@ pub some_there : (o : Option (List ℕ)) → is_some o ≡ true → (bytes : Lis
 some_there (Some bytes) e = (bytes, refl)
 some_there None e = absurd cc
 
-abbrev decoded_to : List ℕ → Result (List ℕ) FromHexError
-decoded_to bytes = Ok bytes
-
-items_same : (xs ys : List ℕ) → decoded_to xs ≡ decoded_to ys → xs ≡ ys
-items_same xs ys e = cc
-
--- what payload is decoded to
-pub decoded_is : (text items : List ℕ) → is_some (payload_in text) ≡ true → decode_of text ≡ Ok items → payload_in text ≡ Some items
-decoded_is text items is e =
-    let read = some_there (payload_in text) is in
-    let same : read.0 ≡ items = items_same read.0 items (sym (decoded text read.0 read.1) ∙ e) in
-    read.1 ∙ ap Some same
-
 -- payload is decoded into room of its length
 sized : (text bytes : List ℕ) (n : ℕ) → payload_in text ≡ Some bytes → length text ≡ 2 * n → decode_sized text n ≡ Ok bytes
 sized text bytes n e long =
