@@ -4,3 +4,4 @@ mod PairsRead
 mod Spelling
 mod Rereading
 mod Putting
+mod WorkedElements
