@@ -39,3 +39,4 @@ pub mod CycleSteps
 pub mod LeafValues
 pub mod FewEntries
 pub mod StationSteps
+mod OutsideCases
