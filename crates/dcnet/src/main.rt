@@ -1,6 +1,10 @@
 //! `dcnet`: makes the real objects, runs the top call, and ends with its status.
 #![tactic(auto)]
 
+ghost use Rattle.std.specs.Prelude.{◌≡◌};
+ghost use Rattle.std.specs.IoError.{error_kind};
+ghost use Rattle.dcnet.specs.Untold.{untold_outcome};
+
 use dc_cli::{Outcome, dcnet, put_fault, status};
 use dc_edge::{DirShelf, OpenGate, StdSink};
 use std::io::ErrorKind;
@@ -45,7 +49,9 @@ fn arguments(rt: &HostRuntime) -> io::Result<Vec<String>> {
 }
 
 /// The outcome of a command line that cannot be had as text: memory ran out, or a word is not UTF-8.
-fn untold(error: io::Error) -> Outcome {
+fn untold(error: io::Error) -> Outcome
+    ensures { result ≡ untold_outcome (error_kind error) }
+{
     match error.kind() {
         ErrorKind::OutOfMemory => Outcome::NoMemory,
         _ => Outcome::Usage { place: 0 },
