@@ -3,9 +3,9 @@ use Rattle.std.proofs.Common.{◌≡◌, ℕ, true, false, cond, ltb, eqb, List,
 use Rattle.std.specs.Option.{option_or}
 use Rattle.std.proofs.lemmas.List.{append-nil}
 use Rattle.std.proofs.lemmas.Bool.Decides.{nat_tests}
-use Rattle.dc_protocol.specs.Groups.{Group, GroupFault, SplitFault, group_of, minus, uneven_limb}
-use Rattle.dc_protocol.specs.Epochs.{Leaf, EpochFault, Tree, unsplit, alike, parts, Ranged, leaf_of, answered, judged_part, judged_split, judged_alike, put, with_left, with_right, current, come_out, split_at, mean_of, Epoch, unbegun, resolving, void_epoch, judged_root, grown_tree, with_word, with_words, epoch_of}
-use Rattle.dc_protocol.proofs.Putting.{put-closed}
+use Rattle.dc_spec.specs.Groups.{Group, GroupFault, SplitFault, group_of, minus, uneven_limb}
+use Rattle.dc_station_rules.specs.Epochs.{Leaf, EpochFault, Tree, unsplit, alike, parts, Ranged, leaf_of, answered, judged_part, judged_split, judged_alike, put, with_left, with_right, current, come_out, split_at, mean_of, Epoch, unbegun, resolving, void_epoch, judged_root, grown_tree, with_word, with_words, epoch_of}
+use Rattle.dc_station_rules.proofs.Putting.{put-closed}
 use Rattle.dc_average.specs.Items.{Item, a_group, a_leaf, items_of, groups_in, single_leaf, from_open, leaves_in}
 
 -- the first of some groups

@@ -5,8 +5,8 @@ use Rattle.std.specs.List.{range_with_len, find}
 use Rattle.std.proofs.Math.Nat.{mod-one}
 use Rattle.std.proofs.lemmas.Bool.{cases_lt, le-ltb}
 use Rattle.std.proofs.lemmas.Bool.Decides.{nat_tests}
-use Rattle.dc_protocol.specs.Groups.{first_place, Group, limb, uneven_limb}
-use Rattle.dc_protocol.specs.Epochs.{Ranged, leaf_of}
+use Rattle.dc_spec.specs.Groups.{first_place, Group, limb, uneven_limb}
+use Rattle.dc_station_rules.specs.Epochs.{Ranged, leaf_of}
 use Rattle.dc_average.specs.Stacks.{AreOfSome, IsStack, count_of, counts_in}
 use Rattle.dc_average.specs.Items.{a_group, from_open, leaves_in, groups_in}
 

@@ -1,14 +1,14 @@
 -- What a word leaves is what is kept of the epoch with that word.
 use Rattle.std.proofs.Common.{◌≡◌, ℕ, ◌&&◌, Bool, true, false, List, [], ◌∷◌, ◌++◌, length, map, drop, Option, Some, Result, Ok, Err, refl, sym, ap, ◌∙◌, subst, is_none, slice_get}
 use Rattle.std.proofs.Math.Seq.{drop-append_seam, drop-length}
-use Rattle.dc_protocol.specs.Groups.{Group, GroupFault, group_of}
-use Rattle.dc_protocol.specs.Values.{last_number, number_of}
-use Rattle.dc_protocol.specs.Epochs.{Leaf, EpochFault, Tree, unsplit, Ranged, answered, put, current, come_out, Epoch, unbegun, resolving, void_epoch, judged_root, grown_tree, with_word, epoch_of, leaves, leaves_at, asked, asked_of, is_called, calls, is_over}
+use Rattle.dc_spec.specs.Groups.{Group, GroupFault, group_of}
+use Rattle.dc_spec.specs.Values.{last_number, number_of}
+use Rattle.dc_station_rules.specs.Epochs.{Leaf, EpochFault, Tree, unsplit, Ranged, answered, put, current, come_out, Epoch, unbegun, resolving, void_epoch, judged_root, grown_tree, with_word, epoch_of, leaves, leaves_at, asked, asked_of, is_called, calls, is_over}
 use Rattle.dc_average.specs.declared.ask.Step.{Step}
 use Rattle.dc_average.specs.Items.{Item, a_group, items_of, groups_in, from_open, leaves_in}
 use Rattle.dc_average.specs.StandsFor.{State, is_empty, is_done, state_of, StandsFor}
 use Rattle.dc_average.specs.Answers.{LeadsTo, LeftBy, root_tree, step_with}
-use Rattle.dc_protocol.proofs.Pushes.{epoch_of-push}
+use Rattle.dc_station_rules.proofs.Pushes.{epoch_of-push}
 use Rattle.dc_average.proofs.ItemLemmas.{first, current-first, from_open-after, leaves_in-after, come_out-leaves, Grafted, cut_of, cut_from_open, cut_come_out, cut_groups, groups_are, IsOrdered, epoch_of-ordered}
 
 -- a list is empty exactly where it has no first

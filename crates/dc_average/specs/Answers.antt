@@ -1,8 +1,8 @@
 -- The answers of an epoch in the protocol's terms.
 use Rattle.std.specs.Prelude.{◌≡◌, ℕ, ◌+◌, ◌≤◌, Bool, true, false, List, [], ◌∷◌, ◌++◌, map, Result, Ok, Err}
-use Rattle.dc_protocol.specs.Groups.{Group, GroupFault}
-use Rattle.dc_protocol.specs.Values.{last_number}
-use Rattle.dc_protocol.specs.Epochs.{Leaf, EpochFault, no_group, no_part, uneven, Tree, unsplit, alike, parts, Ranged, Epoch, resolving, void_epoch, Asked, for_root, for_at_most, for_nothing, is_over}
+use Rattle.dc_spec.specs.Groups.{Group, GroupFault}
+use Rattle.dc_spec.specs.Values.{last_number}
+use Rattle.dc_station_rules.specs.Epochs.{Leaf, EpochFault, no_group, no_part, uneven, Tree, unsplit, alike, parts, Ranged, Epoch, resolving, void_epoch, Asked, for_root, for_at_most, for_nothing, is_over}
 use Rattle.dc_field.specs.GroupAnswers.{group_fault, split_fault}
 use Rattle.dc_average.specs.declared.ask.Ask.{Ask}
 use Rattle.dc_average.specs.declared.ask.Ask.TheVariants.{Root, AtMost, Over}

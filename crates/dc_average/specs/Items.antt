@@ -1,6 +1,6 @@
 -- What stands in the tree of an epoch, from left to right.
 use Rattle.std.specs.Prelude.{List, [], ◌∷◌, ◌++◌, nat_lt, ◌==◌, if◌then◌else◌}
-use Rattle.dc_protocol.specs.Epochs.{Leaf, Tree, unsplit, alike, parts, Ranged, leaf_of}
+use Rattle.dc_station_rules.specs.Epochs.{Leaf, Tree, unsplit, alike, parts, Ranged, leaf_of}
 
 -- a group that is not split, or the leaf of one whose own word showed that all its values are equal
 pub data Item : Type 0 where

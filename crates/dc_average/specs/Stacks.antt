@@ -1,6 +1,6 @@
 -- Groups that wait for their words.
 use Rattle.std.specs.Prelude.{ℕ, ◌+◌, ◌≤◌, List, [], ◌∷◌}
-use Rattle.dc_protocol.specs.Epochs.{Ranged}
+use Rattle.dc_station_rules.specs.Epochs.{Ranged}
 
 -- how many stations sent the values of a group
 abbrev pub count_of : Ranged → ℕ

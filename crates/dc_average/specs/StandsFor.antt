@@ -1,6 +1,6 @@
 -- An epoch as the code keeps it, against the words that were received since its restart.
 use Rattle.std.specs.Prelude.{◌≡◌, ℕ, Bool, true, false, ◌&&◌, List, [], ◌∷◌}
-use Rattle.dc_protocol.specs.Epochs.{Epoch, unbegun, resolving, void_epoch, Ranged, epoch_of, is_over}
+use Rattle.dc_station_rules.specs.Epochs.{Epoch, unbegun, resolving, void_epoch, Ranged, epoch_of, is_over}
 use Rattle.dc_average.specs.Items.{items_of, from_open}
 
 -- whether the root was received, and the groups that wait for their words, the current one first

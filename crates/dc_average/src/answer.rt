@@ -1,8 +1,8 @@
 //! What a word makes of the current group.
 
 ghost use Rattle.std.specs.Prelude.{◌≡◌, ◌+◌, ◌<◌, ◌≤◌, IfOk, IfSome};
-ghost use Rattle.dc_protocol.specs.Groups.{uneven_limb};
-ghost use Rattle.dc_protocol.specs.Epochs.{answered, judged_alike, mean_of, split_at};
+ghost use Rattle.dc_spec.specs.Groups.{uneven_limb};
+ghost use Rattle.dc_station_rules.specs.Epochs.{answered, judged_alike, mean_of, split_at};
 ghost use Rattle.dc_average.specs.Stacks.{count_of};
 ghost use Rattle.dc_average.specs.Answers.{IsOfSome, counts_of, told_answer, told_leaf};
 
@@ -26,7 +26,7 @@ pub(crate) enum Answer {
 }
 
 /// What its word makes of a group: its stations sent again where their numbers are at most the mean.
-#[tactic(auto, unfolding(dc_protocol::specs::Epochs::answered))]
+#[tactic(auto, unfolding(dc_station_rules::specs::Epochs::answered))]
 pub(crate) fn answer_to(whole: &RangedGroup, w: &Word) -> Result<Answer, BadWord>
     requires { 1 ≤ count_of whole.now }
     ensures answer { told_answer result ≡ answered whole.now.group whole.now.low whole.now.high w.now }
@@ -66,7 +66,7 @@ fn alike(whole: &RangedGroup) -> Result<Leaf, BadWord>
 }
 
 /// The place of the first limb that the count does not divide.
-#[tactic(auto, unfolding(dc_protocol::specs::Groups::first_place))]
+#[tactic(auto, unfolding(dc_spec::specs::Groups::first_place))]
 fn first_uneven(group: &Group) -> Option<usize>
     requires { 1 ≤ group.now.count }
     ensures place { result ≡ uneven_limb group.now }

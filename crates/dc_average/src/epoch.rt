@@ -1,8 +1,8 @@
 //! An epoch: words are taken one after the other, and leaves come out.
 
 ghost use Rattle.std.specs.Prelude.{◌≡◌, ℕ, ◌+◌, ◌<◌, ◌≤◌, false, List, [], ◌∷◌, ◌++◌, IfNone, IfOk, IfSome, length, map, slice_get};
-ghost use Rattle.dc_protocol.specs.Groups.{group_of};
-ghost use Rattle.dc_protocol.specs.Epochs.{Ranged, answered, asked, calls, epoch_of, leaves_at};
+ghost use Rattle.dc_spec.specs.Groups.{group_of};
+ghost use Rattle.dc_station_rules.specs.Epochs.{Ranged, answered, asked, calls, epoch_of, leaves_at};
 ghost use Rattle.dc_average.specs.Stacks.{IsStack, count_of, counts_in};
 ghost use Rattle.dc_average.specs.Items.{a_group, from_open, leaves_in};
 ghost use Rattle.dc_average.specs.StandsFor.{StandsFor, is_done};

@@ -1,7 +1,7 @@
 //! Leaves: values that came out of an epoch.
 
 ghost use Rattle.std.specs.Prelude.{◌≡◌, ◌<◌, ◌≤◌, [], ◌∷◌, ◌++◌, IfOk, length, slice_get};
-ghost use Rattle.dc_protocol.specs.Epochs.{Leaf as leaf_record};
+ghost use Rattle.dc_station_rules.specs.Epochs.{Leaf as leaf_record};
 
 use dc_field::{NoMemory, Value};
 use std::alloc::Global;
@@ -20,7 +20,7 @@ pub struct Leaf {
 }
 
 impl Model for Leaf {
-    ghost use Rattle.dc_protocol.specs.Epochs.{Leaf as leaf_record};
+    ghost use Rattle.dc_station_rules.specs.Epochs.{Leaf as leaf_record};
 
     ghost Value = { leaf_record };
 
@@ -37,7 +37,7 @@ pub struct Leaves {
 
 impl Model for Leaves {
     ghost use Rattle.std.specs.Prelude.{List, ◌≤◌, length, vec_capacity};
-    ghost use Rattle.dc_protocol.specs.Epochs.{Leaf as leaf_record};
+    ghost use Rattle.dc_station_rules.specs.Epochs.{Leaf as leaf_record};
 
     ghost Value = { List leaf_record };
 

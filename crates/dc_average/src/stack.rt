@@ -1,8 +1,8 @@
 //! The groups of an epoch that are not yet split, the current one on top.
 
 ghost use Rattle.std.specs.Prelude.{◌≡◌, ◌+◌, ◌^◌, ◌<◌, ◌≤◌, [], ◌∷◌, IfOk, drop, slice_get};
-ghost use Rattle.dc_protocol.specs.Groups.{uneven_limb};
-ghost use Rattle.dc_protocol.specs.Epochs.{Ranged, is_called, leaf_of, mean_of};
+ghost use Rattle.dc_spec.specs.Groups.{uneven_limb};
+ghost use Rattle.dc_station_rules.specs.Epochs.{Ranged, is_called, leaf_of, mean_of};
 ghost use Rattle.dc_average.specs.Stacks.{IsStack, count_of, counts_in};
 
 use crate::leaf::Leaf;
@@ -19,7 +19,7 @@ pub(crate) struct RangedGroup {
 }
 
 impl Model for RangedGroup {
-    ghost use Rattle.dc_protocol.specs.Epochs.{Ranged};
+    ghost use Rattle.dc_station_rules.specs.Epochs.{Ranged};
 
     ghost Value = { Ranged };
 
@@ -47,7 +47,7 @@ impl RangedGroup {
     }
 
     /// The leaf of a group whose values are all equal.
-    #[tactic(auto, unfolding(dc_protocol::specs::Groups::equal_value))]
+    #[tactic(auto, unfolding(dc_spec::specs::Groups::equal_value))]
     pub(crate) fn leaf(&self) -> Leaf
         requires some { 1 ≤ count_of self.now }
         requires even { uneven_limb self.now.group ≡ None }
@@ -70,7 +70,7 @@ pub(crate) struct Stack {
 
 impl Model for Stack {
     ghost use Rattle.std.specs.Prelude.{List, ◌≤◌, reverse, vec_capacity};
-    ghost use Rattle.dc_protocol.specs.Epochs.{Ranged};
+    ghost use Rattle.dc_station_rules.specs.Epochs.{Ranged};
     ghost use Rattle.dc_average.specs.Stacks.{IsStack};
 
     ghost Value = { List Ranged };

@@ -1,8 +1,8 @@
 //! What the keys of a station add to its words.
 
 ghost use Rattle.std.specs.Prelude.{◌≡◌, ◌+◌, ◌<◌, ◌∷◌, ◌++◌, [], ℕ, List, IfOk};
-ghost use Rattle.dc_protocol.specs.Net.{Keys};
-ghost use Rattle.dc_protocol.specs.PairKeys.{key_part};
+ghost use Rattle.dc_spec.specs.Pads.{Keys};
+ghost use Rattle.dc_key_rules.specs.PairKeys.{key_part};
 ghost use Rattle.dc_formats.specs.KeyFile.{IsKeys};
 ghost use Rattle.dc_keys.specs.StationPads.{StationPads, station_pads, station_key};
 ghost use Rattle.dc_conv.specs.Mask.{StandsFor};

@@ -3,7 +3,7 @@ use Rattle.std.proofs.Common.{◌≡◌, ℕ, zero, suc, ◌+◌, ◌*◌, ◌/�
 use Rattle.std.proofs.Math.Nat.{pow-suc, mul-le-mul_right, mul-le-mul_left, pow-le-pow_right, div-lt_iff_lt-mul}
 use Rattle.std.proofs.lemmas.List.{take_more, length-take}
 use Rattle.std.proofs.lemmas.Nat.{pow-add}
-use Rattle.dc_protocol.specs.Values.{number_of}
+use Rattle.dc_spec.specs.Values.{number_of}
 
 -- one more digit
 pub number_of-push : (xs : List ℕ) (d : ℕ) → number_of (xs ++ d ∷ []) ≡ number_of xs * 256 + d

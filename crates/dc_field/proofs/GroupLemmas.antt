@@ -5,9 +5,9 @@ use Rattle.std.proofs.lemmas.Bool.{cases_lt, ltb-false, or_parts}
 use Rattle.std.proofs.lemmas.Bool.Decides.{nat_tests}
 use Rattle.std.proofs.lemmas.List.{length-take, length-drop, get_or-take, get_or-drop, get_or_past, get_or-map, length-map, ext_get_or}
 use Rattle.std.proofs.lemmas.List.FromFn.{fill_by_all, length-map-range_with_len, get_or-map-range_with_len}
-use Rattle.dc_protocol.specs.Values.{number_of, fifteen, word_count, word_limbs}
-use Rattle.dc_protocol.specs.Groups.{first_place, judged_group, group_of}
-use Rattle.dc_protocol.proofs.GroupLemmas.{first_place-none}
+use Rattle.dc_spec.specs.Values.{number_of, fifteen, word_count, word_limbs}
+use Rattle.dc_spec.specs.Groups.{first_place, judged_group, group_of}
+use Rattle.dc_spec.proofs.GroupLemmas.{first_place-none}
 use Rattle.dc_field.proofs.Digits.{number_of-sum}
 
 -- a word of a count up to 256 is judged by its limbs

@@ -1,6 +1,6 @@
 -- Groups as the code keeps them, and its faults as those of the protocol.
 use Rattle.std.specs.Prelude.{Result, Ok, Err}
-use Rattle.dc_protocol.specs.Groups.{Group, GroupFault, SplitFault, group_count, group_limb, split_count, split_limb}
+use Rattle.dc_spec.specs.Groups.{Group, GroupFault, SplitFault, group_count, group_limb, split_count, split_limb}
 use Rattle.dc_field.specs.declared.group.BadGroup.{BadGroup}
 use Rattle.dc_field.specs.declared.group.BadGroup.TheVariants.{Count as bad_count, Limb as bad_limb}
 use Rattle.dc_field.specs.declared.group.BadSplit.{BadSplit}

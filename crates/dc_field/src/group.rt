@@ -2,8 +2,8 @@
 
 ghost use Rattle.std.specs.Prelude.{◌≡◌, ◌+◌, ◌-◌, ◌*◌, ◌/◌, ◌%◌, ◌^◌, ◌<◌, ◌≤◌, ◌==◌, ◌||◌, ℕ, IfOk, IfSome, OnOk, length, map, nat_lt, not, slice_index};
 ghost use Rattle.std.specs.List.{range_with_len};
-ghost use Rattle.dc_protocol.specs.Groups.{Group as group_record, divided, equal_value, first_place, group_of, limb, mean, minus, total};
-ghost use Rattle.dc_protocol.specs.Values.{number_of};
+ghost use Rattle.dc_spec.specs.Groups.{Group as group_record, divided, equal_value, first_place, group_of, limb, mean, minus, total};
+ghost use Rattle.dc_spec.specs.Values.{number_of};
 ghost use Rattle.dc_field.specs.GroupAnswers.{told_group, told_rest};
 ghost use Rattle.dc_field.specs.IsGroup.{IsGroup};
 
@@ -19,7 +19,7 @@ pub struct Group {
 }
 
 impl Model for Group {
-    ghost use Rattle.dc_protocol.specs.Groups.{Group as group_record};
+    ghost use Rattle.dc_spec.specs.Groups.{Group as group_record};
     ghost use Rattle.dc_field.specs.IsGroup.{IsGroup};
 
     ghost Value = { group_record };
@@ -51,7 +51,7 @@ pub enum BadSplit {
 
 impl Group {
     /// The group that a word carries: symbol 0 is the count, symbols 1 to 15 are the limbs.
-    #[tactic(auto, unfolding(dc_protocol::specs::Groups::group_of))]
+    #[tactic(auto, unfolding(dc_spec::specs::Groups::group_of))]
     pub fn of_word(w: &Word) -> Result<Group, BadGroup>
         ensures { told_group result ≡ group_of w.now }
     {
@@ -109,7 +109,7 @@ impl Group {
     }
 
     /// What is left without a part.
-    #[tactic(auto, unfolding(dc_protocol::specs::Groups::minus, dc_protocol::specs::Values::fifteen))]
+    #[tactic(auto, unfolding(dc_spec::specs::Groups::minus, dc_spec::specs::Values::fifteen))]
     pub fn minus(&self, part: &Group) -> Result<Group, BadSplit>
         ensures rest { told_rest result ≡ minus self.now part.now }
         ensures some { OnOk result (1 ≤ part.now.count) }
@@ -137,7 +137,7 @@ impl Group {
     }
 
     /// The value that all stations of the group sent, if they may all have sent the same.
-    #[tactic(auto, unfolding(dc_protocol::specs::Groups::equal_value, dc_protocol::specs::Values::fifteen))]
+    #[tactic(auto, unfolding(dc_spec::specs::Groups::equal_value, dc_spec::specs::Values::fifteen))]
     pub fn equal_value(&self) -> Option<Value>
         ensures { result ≡ equal_value self.now }
     {
@@ -166,7 +166,7 @@ fn number_from(limbs: &[u16; 15]) -> u128
 }
 
 /// The place of the first limb above a bound.
-#[tactic(auto, unfolding(dc_protocol::specs::Groups::first_place))]
+#[tactic(auto, unfolding(dc_spec::specs::Groups::first_place))]
 fn first_high(limbs: &[u32], bound: u32) -> Option<usize>
     requires { length limbs.now ≡ 15 }
     ensures place { result ≡ first_place (λ i. nat_lt bound (slice_index limbs.now i)) }
@@ -176,7 +176,7 @@ fn first_high(limbs: &[u32], bound: u32) -> Option<usize>
 }
 
 /// The place of the first limb that a part has more of than the whole, or that leaves more than a bound.
-#[tactic(auto, unfolding(dc_protocol::specs::Groups::first_place))]
+#[tactic(auto, unfolding(dc_spec::specs::Groups::first_place))]
 fn first_unfit(whole: &[u16; 15], part: &[u16; 15], bound: u16) -> Option<usize>
     ensures place { result ≡ first_place (λ i. nat_lt (slice_index whole.now i) (slice_index part.now i)
         || nat_lt bound (slice_index whole.now i - slice_index part.now i)) }
@@ -186,7 +186,7 @@ fn first_unfit(whole: &[u16; 15], part: &[u16; 15], bound: u16) -> Option<usize>
 }
 
 /// The place of the first limb that a count does not divide.
-#[tactic(auto, unfolding(dc_protocol::specs::Groups::first_place))]
+#[tactic(auto, unfolding(dc_spec::specs::Groups::first_place))]
 fn first_uneven(limbs: &[u16; 15], count: u16) -> Option<usize>
     requires { 0 < count }
     ensures { result ≡ first_place (λ i. not (slice_index limbs.now i % count == 0)) }

@@ -1,8 +1,8 @@
 //! Symbols, words and the list types that contracts see as plain lists.
 #![tactic(auto)]
 
-mod bytes;
 mod group;
+mod items;
 mod number;
 mod refusal;
 mod sym;
@@ -14,10 +14,9 @@ mod word_in_bytes;
 mod word_in_text;
 mod word_of_text;
 mod word_to_bytes;
-mod words;
 
-pub use bytes::Bytes;
 pub use group::{BadGroup, BadSplit, Group};
+pub use items::{Bytes, Items, TryClone, Words};
 pub use number::read_decimal;
 pub use refusal::{NoMemory, Refusal};
 pub use sym::Sym;
@@ -29,7 +28,6 @@ pub use word_in_bytes::{SymFault, read_word, read_word_bytes};
 pub use word_in_text::word_text;
 pub use word_of_text::{WordFault, read_word_text};
 pub use word_to_bytes::word_bytes;
-pub use words::Words;
 
 #[cfg(test)]
 mod group_tests;

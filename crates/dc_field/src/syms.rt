@@ -6,7 +6,10 @@ ghost use Rattle.dc_spec.specs.Words.{IsSymbol};
 use std::marker::Model;
 
 /// Symbols, seen by contracts as the list of their numbers, each below 65537.
-#[derive(Debug, Drop)]
+///
+/// A type of its own beside `Items`: it keeps plain numbers, over which loops are fast, and its invariant says that they are
+/// symbols. Pads are such lists, so it has no `Debug`.
+#[derive(Drop)]
 pub struct Syms {
     items: Vec<u32>,
 }

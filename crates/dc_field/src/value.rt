@@ -2,7 +2,7 @@
 
 ghost use Rattle.std.specs.Prelude.{◌≡◌, ◌∷◌, ◌*◌, ◌^◌, ◌<◌, ◌≤◌, SomeIff, length, map, slice_index};
 ghost use Rattle.std.specs.List.{range_with_len};
-ghost use Rattle.dc_protocol.specs.Values.{IsValue, contended_word, number_of, value_of};
+ghost use Rattle.dc_spec.specs.Values.{IsValue, contended_word, number_of, value_of};
 
 use crate::sym::Sym;
 use crate::word::Word;

@@ -7,9 +7,9 @@ use Rattle.std.proofs.lemmas.List.{append_assoc}
 use Rattle.dc_spec.specs.Words.{IsWord, IsSymbol}
 use Rattle.dc_spec.specs.Bytes.{symbol_bytes, word_bytes}
 use Rattle.dc_spec.specs.Recorded.{Recorded, IsRecorded, transcript_bytes}
-use Rattle.dc_protocol.specs.Net.{Pair, Keys}
+use Rattle.dc_spec.specs.Pads.{Pair, Keys}
 use Rattle.dc_formats.specs.KeyFile.{pair_bytes, keys_bytes, IsPair, IsKeys}
-use Rattle.dc_protocol.specs.SessionTexts.{Frame, hello, send, all}
+use Rattle.dc_spec.specs.Frames.{Frame, hello, send, all}
 use Rattle.dc_formats.specs.Frames.{frame_bytes, frames_bytes, IsFrame}
 use Rattle.dc_formats.proofs.Readable.{IsReadable, without_rest, read_counted, read_until}
 use Rattle.dc_formats.proofs.Pieces.{read_short, read_number, read_symbol, read_word}

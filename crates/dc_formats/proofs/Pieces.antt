@@ -15,7 +15,7 @@ use Rattle.dc_spec.proofs.TextLemmas.{symbol_from_digits}
 use Rattle.dc_spec.specs.Words.{IsSymbol, IsWord}
 use Rattle.dc_spec.specs.Bytes.{symbol_bytes, word_bytes}
 use Rattle.dc_spec.specs.Text.{hex_digit, symbol_text, word_text, line}
-use Rattle.dc_protocol.specs.Values.{IsValue}
+use Rattle.dc_spec.specs.Values.{IsValue}
 use Rattle.dc_formats.specs.TextFile.{AreBytes, byte_text, hex_text}
 use Rattle.dc_formats.proofs.Readable.{IsReadable, Ends, read_counted, read_until, read_to_byte}
 

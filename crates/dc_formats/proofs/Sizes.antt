@@ -13,10 +13,11 @@ use Rattle.dc_spec.specs.Words.{IsWord}
 use Rattle.dc_spec.specs.Bytes.{symbol_bytes, word_bytes}
 use Rattle.dc_spec.specs.Text.{symbol_text, word_text, line}
 use Rattle.dc_spec.specs.Recorded.{Recorded, IsRecorded, transcript_bytes}
-use Rattle.dc_protocol.specs.Net.{Pair, Keys, Stream}
+use Rattle.dc_spec.specs.Pads.{Pair, Keys}
+use Rattle.dc_spec.specs.Entries.{Stream}
 use Rattle.dc_formats.specs.TextFile.{byte_text, hex_text}
 use Rattle.dc_formats.specs.KeyFile.{pair_bytes, keys_bytes, IsPair, IsBefore, AreRising, IsKeys}
-use Rattle.dc_protocol.specs.Values.{IsValue}
+use Rattle.dc_spec.specs.Values.{IsValue}
 use Rattle.dc_formats.specs.StreamFile.{short_line, long_line, coin_line, stream_text, IsMessage, IsStream}
 use Rattle.dc_formats.specs.ListFiles.{images_text, AreImages, wanted_text, AreWanted}
 

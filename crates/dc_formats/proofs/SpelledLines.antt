@@ -9,10 +9,11 @@ use Rattle.std.proofs.lemmas.Grind.{flat_map-append}
 use Rattle.std.proofs.lemmas.Bool.Decides.{nat_tests}
 use Rattle.dc_spec.specs.Words.{IsWord}
 use Rattle.dc_spec.specs.Text.{word_text, line}
-use Rattle.dc_protocol.specs.Net.{Stream, Delivery, all_sum, each, Turn}
+use Rattle.dc_spec.specs.Entries.{Stream}
+use Rattle.dc_spec.specs.Scripts.{Delivery, all_sum, each, Turn}
 use Rattle.dc_formats.specs.TextFile.{IsPrintable, IsTextLine, IsTextFile, AreBytes, hex_text}
 use Rattle.dc_formats.specs.WordLines.{station_word_line}
-use Rattle.dc_protocol.specs.Values.{IsValue}
+use Rattle.dc_spec.specs.Values.{IsValue}
 use Rattle.dc_formats.specs.StreamFile.{short_line, long_line, coin_line, stream_text, IsMessage, IsStream}
 use Rattle.dc_formats.specs.ScriptFile.{delivery_lines, turn_lines, script_text, AreStationWords, IsTurn, IsScript}
 use Rattle.dc_formats.specs.ListFiles.{images_text, AreImages, wanted_text, AreWanted}

@@ -4,7 +4,7 @@ use Rattle.std.specs.List.{flat_map}
 use Rattle.std.specs.Int.{w16, to_be_bytes}
 use Rattle.dc_spec.specs.Words.{IsWord}
 use Rattle.dc_spec.specs.Bytes.{word_bytes}
-use Rattle.dc_protocol.specs.SessionTexts.{Frame, hello, send, all}
+use Rattle.dc_spec.specs.Frames.{Frame, hello, send, all}
 
 -- a tag, the body's length, the body
 abbrev pub tagged : ℕ → List ℕ → List ℕ

@@ -5,7 +5,7 @@ use Rattle.std.specs.List.Sorted.{IsStrictlyIncreasing}
 use Rattle.std.specs.Fmt.{decimal}
 use Rattle.dc_spec.specs.Words.{IsWord}
 use Rattle.dc_spec.specs.Text.{line}
-use Rattle.dc_protocol.specs.Net.{Delivery, all_sum, each, Turn}
+use Rattle.dc_spec.specs.Scripts.{Delivery, all_sum, each, Turn}
 use Rattle.dc_formats.specs.WordLines.{station_word_line}
 
 -- one line where all receive the sum, else a line for each dealt word

@@ -3,9 +3,9 @@ use Rattle.std.specs.Prelude.{ℕ, ◌<◌, ◌≤◌, List, ◌++◌, length, A
 use Rattle.std.specs.List.{flat_map}
 use Rattle.std.specs.Fmt.{decimal}
 use Rattle.dc_spec.specs.Text.{line}
-use Rattle.dc_protocol.specs.Net.{Stream}
-use Rattle.dc_protocol.specs.Values.{IsValue}
-pub use Rattle.dc_protocol.specs.Bursts.{IsMessage}
+use Rattle.dc_spec.specs.Entries.{Stream}
+use Rattle.dc_spec.specs.Values.{IsValue}
+pub use Rattle.dc_spec.specs.Entries.{IsMessage}
 use Rattle.dc_formats.specs.TextFile.{hex_text}
 
 -- a value

@@ -13,12 +13,12 @@ use Rattle.std.proofs.lemmas.List.FromFn.{length-range_with_len, get_or-range_wi
 use Rattle.std.proofs.lemmas.List.Folds.{list_any_more}
 use Rattle.std.proofs.lemmas.List.Sums.{position_or_len_is}
 use Rattle.std.proofs.Math.Bool.{and-false, or-true, or-false}
-use Rattle.dc_protocol.specs.Graphs.{is_among}
+use Rattle.dc_spec.specs.Lists.{is_among}
 use Rattle.dc_graph.specs.declared.fault.GraphFault.TheVariants.{Stations, Ends, Repeated}
 use Rattle.dc_graph.specs.declared.fault.MemberFault.{MemberFault}
 use Rattle.dc_graph.specs.Graph.{IsEdge, IsGraph, AreMembers}
 use Rattle.dc_graph.specs.Faults.{told_place, joins, stands_in, pair_at, is_faulty_pair, pair_fault, first_pair_fault, graph_fault, is_faulty_member, member_fault}
-use Rattle.dc_protocol.proofs.Options.{map-none}
+use Rattle.dc_spec.proofs.Options.{map-none}
 use Rattle.dc_field.proofs.Positions.{fails_where_none}
 use Rattle.dc_graph.proofs.Rising.{neighbours_differ, AreRising-from_sort}
 

@@ -2,7 +2,7 @@
 use Rattle.std.specs.Prelude.{ℕ, ◌-◌, ◌^◌, ◌≡◌, min, Bool, not, ◌&&◌, ◌||◌, nat_eq, nat_lt, nat_le, List, length, take, slice_index, slice_index_or, position, Option, Some, None, option_map, if◌then◌else◌, Result, Ok, Err}
 use Rattle.std.specs.List.{range_with_len, list_any}
 use Rattle.std.specs.List.Sorted.{IsPermutation}
-use Rattle.dc_protocol.specs.Graphs.{is_among}
+use Rattle.dc_spec.specs.Lists.{is_among}
 use Rattle.dc_field.specs.declared.refusal.Refusal.{Refusal}
 use Rattle.dc_field.specs.declared.refusal.Refusal.TheVariants.{NoMemory, Bad}
 use Rattle.dc_graph.specs.declared.fault.GraphFault.{GraphFault}

@@ -1,6 +1,6 @@
 -- A key graph as it is kept: its edges in rising order.
 use Rattle.std.specs.Prelude.{ℕ, ◌+◌, ◌<◌, ◌≤◌, ◌≡◌, List, length, slice_index_or, All}
-use Rattle.dc_protocol.specs.Graphs.{KeyGraph}
+use Rattle.dc_graph_rules.specs.Graphs.{KeyGraph}
 
 -- so many stations, and the pairs that share pads
 pub record PlainGraph : Type 0 where

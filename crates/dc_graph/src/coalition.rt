@@ -1,7 +1,7 @@
 //! The stations that work together against the others.
 
 ghost use Rattle.std.specs.Prelude.{◌≡◌, length, IfOk};
-ghost use Rattle.dc_protocol.specs.Graphs.{is_among};
+ghost use Rattle.dc_spec.specs.Lists.{is_among};
 ghost use Rattle.dc_graph.specs.Graph.{AreMembers};
 ghost use Rattle.dc_graph.specs.Faults.{MakesCoalition};
 

@@ -1,7 +1,7 @@
 //! The key graph (Chaum 1988).
 
 ghost use Rattle.std.specs.Prelude.{◌≡◌, ◌<◌, Some, length, slice_get, IfOk};
-ghost use Rattle.dc_protocol.specs.Graphs.{has_edge};
+ghost use Rattle.dc_graph_rules.specs.Graphs.{has_edge};
 ghost use Rattle.dc_graph.specs.Graph.{IsGraph};
 ghost use Rattle.dc_graph.specs.Faults.{MakesGraph};
 

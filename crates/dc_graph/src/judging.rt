@@ -1,7 +1,7 @@
 //! The first fault of a list.
 
 ghost use Rattle.std.specs.Prelude.{◌≡◌, ◌-◌, ◌*◌, ◌^◌, ◌≤◌, ◌<◌, min, ℕ, List, length, take, false, slice_index_or, replicate, IfOk};
-ghost use Rattle.dc_protocol.specs.Graphs.{is_among};
+ghost use Rattle.dc_spec.specs.Lists.{is_among};
 ghost use Rattle.dc_graph.specs.Faults.{told_place, joins, is_faulty_member, first_pair_fault, graph_fault as graph_fault_of, member_fault as member_fault_of};
 
 use crate::fault::{GraphFault, MemberFault};

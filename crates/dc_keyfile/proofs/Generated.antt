@@ -10,7 +10,7 @@ use Rattle.std.proofs.lemmas.List.FromFn.{length-map-range_with_len, get_or-map-
 use Rattle.std.proofs.lemmas.List.Elements.{All-map}
 use Rattle.rand_chacha.specs.ChaCha.{ChaCha, key_of, of_seed}
 use Rattle.dc_spec.specs.Words.{IsSymbol}
-use Rattle.dc_protocol.specs.Net.{Pair}
+use Rattle.dc_spec.specs.Pads.{Pair}
 use Rattle.dc_formats.specs.KeyFile.{IsPair, IsKeys}
 use Rattle.dc_graph.specs.Graph.{PlainGraph, IsEdge, IsGraph}
 use Rattle.dc_keys.specs.Pads.{IsPairKey}

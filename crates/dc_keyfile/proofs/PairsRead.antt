@@ -9,7 +9,7 @@ use Rattle.std.proofs.lemmas.List.{length-map, get_or-map, map_push, take-append
 use Rattle.std.proofs.lemmas.List.FromFn.{get_or-map-range_with_len, length-map-range_with_len, take-map-range_with_len, map-range_with_len_more}
 use Rattle.dc_spec.specs.Words.{IsSymbol}
 use Rattle.dc_spec.specs.Bytes.{short_at}
-use Rattle.dc_protocol.specs.Net.{Pair}
+use Rattle.dc_spec.specs.Pads.{Pair}
 use Rattle.dc_formats.specs.KeyFile.{IsPair, IsBefore, IsKeys}
 use Rattle.dc_keys.specs.Pads.{IsPairKey}
 use Rattle.dc_field.specs.declared.refusal.Refusal.{Refusal}

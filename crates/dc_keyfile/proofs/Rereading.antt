@@ -11,7 +11,7 @@ use Rattle.std.proofs.lemmas.List.Elements.{All-same, All-append}
 use Rattle.dc_formats.proofs.BinaryLaws.{few_pairs}
 use Rattle.dc_spec.specs.Words.{IsSymbol}
 use Rattle.dc_spec.specs.Bytes.{symbol_bytes, number_at, short_at}
-use Rattle.dc_protocol.specs.Net.{Pair, Keys}
+use Rattle.dc_spec.specs.Pads.{Pair, Keys}
 use Rattle.dc_formats.specs.KeyFile.{IsPair, IsBefore, IsKeys, pair_bytes, keys_bytes}
 use Rattle.dc_keyfile.specs.Reading.{pair_size, due_length, piece_at, ends_of, are_ends, is_before, is_rising, numbers_at, pads_of, padded, pair_of, all_or_first, pairs_of, body_of, sized, keys_of}
 use Rattle.dc_keyfile.proofs.Pads.{pads_are_read}

@@ -10,7 +10,7 @@ use Rattle.std.proofs.lemmas.List.{take_all, take_more, take-append-drop, drop-d
 use Rattle.std.proofs.lemmas.List.FromFn.{fill_by_all}
 use Rattle.std.proofs.lemmas.Slice.Eq.{bytes_eq-Decides}
 use Rattle.dc_spec.specs.Bytes.{symbol_bytes, number_at, short_at}
-use Rattle.dc_protocol.specs.Net.{Pair, Keys}
+use Rattle.dc_spec.specs.Pads.{Pair, Keys}
 use Rattle.dc_formats.specs.KeyFile.{IsKeys, pair_bytes, keys_bytes}
 use Rattle.dc_field.specs.declared.refusal.Refusal.{Refusal}
 use Rattle.dc_field.specs.Answers.{Answers}

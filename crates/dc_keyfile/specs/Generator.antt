@@ -3,7 +3,7 @@ use Rattle.std.specs.Prelude.{ℕ, ◌+◌, ◌*◌, ◌%◌, ◌^◌, ◌==◌,
 use Rattle.std.specs.List.{range_with_len}
 use Rattle.std.specs.Int.{w16, to_be_bytes}
 use Rattle.rand_chacha.specs.ChaCha.{word_at, key_of}
-use Rattle.dc_protocol.specs.Net.{Pair, Keys}
+use Rattle.dc_spec.specs.Pads.{Pair, Keys}
 use Rattle.dc_graph.specs.Graph.{PlainGraph}
 
 -- the seed of the pair (u, v): the base, with u in the bytes 28 and 29 and v in the bytes 30 and 31

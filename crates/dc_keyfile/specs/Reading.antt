@@ -2,7 +2,7 @@
 use Rattle.std.specs.Prelude.{ℕ, ◌+◌, ◌-◌, ◌*◌, ◌^◌, Bool, not, ◌&&◌, ◌||◌, List, [], ◌∷◌, length, map, take, drop, slice_index, position, Option, Some, None, Result, Ok, Err, nat_eq, nat_lt, ◌==◌, if◌then◌else◌, codes}
 use Rattle.std.specs.List.{range_with_len, starts_with}
 use Rattle.dc_spec.specs.Bytes.{number_at, short_at}
-use Rattle.dc_protocol.specs.Net.{Pair, Keys}
+use Rattle.dc_spec.specs.Pads.{Pair, Keys}
 use Rattle.dc_keyfile.specs.declared.fault.KeyFault.{KeyFault}
 use Rattle.dc_keyfile.specs.declared.fault.KeyFault.TheVariants.{Truncated, Magic, Version, Stations, Words, TooLarge, Pair as NoPair, Order, Symbol, FirstSecondPad, Rest}
 

@@ -2,7 +2,7 @@
 
 ghost use Rattle.std.specs.Prelude.{◌≡◌, ◌+◌, ◌*◌, ◌^◌, ◌<◌, ◌≤◌, length, IfOk, Ok};
 ghost use Rattle.dc_spec.specs.Bytes.{number_at};
-ghost use Rattle.dc_protocol.specs.Net.{Keys};
+ghost use Rattle.dc_spec.specs.Pads.{Keys};
 ghost use Rattle.dc_formats.specs.KeyFile.{IsKeys, keys_bytes};
 ghost use Rattle.dc_field.specs.Answers.{Answers};
 ghost use Rattle.dc_keyfile.specs.Reading.{pair_size, due_length, piece_at, ends_of, are_ends, is_before, is_rising, pads_of, padded, pair_of, pairs_of, body_of, sized, keys_of};

@@ -5,7 +5,7 @@ use Rattle.std.proofs.Math.ListN.{get_or-append}
 use Rattle.std.proofs.lemmas.List.{append-nil, take_more, get_or-take, get_or-drop, take-append-drop, length-append, length-take}
 use Rattle.std.proofs.lemmas.List.Concat.{flat_map-append, get_or-flat_map}
 use Rattle.std.proofs.lemmas.List.FromFn.{fill_by_all, length-range_with_len, get_or-range_with_len, sum_by-map-range_with_len_more}
-use Rattle.dc_protocol.specs.PairKeys.{symbols, key_symbol}
+use Rattle.dc_key_rules.specs.PairKeys.{symbols, key_symbol}
 
 -- a range is its own places
 range_is : (n : ℕ) → range_with_len 0 n ≡ map (λ (k : ℕ). k) (range_with_len 0 n)

@@ -10,8 +10,8 @@ use Rattle.std.proofs.lemmas.List.Sums.{sum_by-cons, sum_by_more}
 use Rattle.std.proofs.lemmas.List.Elements.{All-filter, All-weaker}
 use Rattle.dc_spec.specs.Words.{word_add, word_sub}
 use Rattle.dc_spec.proofs.WordLemmas.{word_of-same, symbol-word_of}
-use Rattle.dc_protocol.specs.Net.{Pair, Keys}
-use Rattle.dc_protocol.specs.PairKeys.{symbols, key_symbol, key_word, key_sum}
+use Rattle.dc_spec.specs.Pads.{Pair, Keys}
+use Rattle.dc_key_rules.specs.PairKeys.{symbols, key_symbol, key_word, key_sum}
 use Rattle.dc_formats.specs.KeyFile.{IsPair, IsKeys}
 use Rattle.dc_keys.specs.Pads.{IsPadded}
 use Rattle.dc_keys.specs.declared.summed_pads.Side.{Side}

@@ -1,7 +1,7 @@
 -- The pads of a pair, for any number of words.
 use Rattle.std.specs.Prelude.{ℕ, ◌*◌, ◌/◌, ◌≤◌, ◌≡◌, length, slice_index, All}
 use Rattle.dc_spec.specs.Words.{IsSymbol}
-use Rattle.dc_protocol.specs.Net.{Pair}
+use Rattle.dc_spec.specs.Pads.{Pair}
 
 -- for how many words a pair has first pads, sixteen a word
 abbrev pub word_count : Pair → ℕ

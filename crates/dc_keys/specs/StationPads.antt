@@ -1,8 +1,8 @@
 -- The pads of a station: for each number the sum of its pairs' pads, those that it subtracts with a minus sign.
 use Rattle.std.specs.Prelude.{ℕ, ◌+◌, ◌-◌, ◌*◌, ◌%◌, ◌==◌, Bool, List, length, map, filter, sum_by, slice_index}
 use Rattle.std.specs.List.{range_with_len}
-use Rattle.dc_protocol.specs.Net.{Pair, Keys}
-use Rattle.dc_protocol.specs.PairKeys.{symbols, key_word}
+use Rattle.dc_spec.specs.Pads.{Pair, Keys}
+use Rattle.dc_key_rules.specs.PairKeys.{symbols, key_word}
 use Rattle.dc_keys.specs.declared.summed_pads.Side.{Side}
 use Rattle.dc_keys.specs.declared.summed_pads.Side.TheVariants.{Plus, Minus}
 

@@ -3,8 +3,7 @@
 ghost use Rattle.std.specs.Prelude.{◌≡◌, ◌↔◌, IsTrue, IfOk, SomeIff};
 ghost use Rattle.dc_formats.specs.KeyFile.{IsKeys, IsPair, IsBefore};
 
-use crate::pair_key::PairKey;
-use crate::pairs::Pairs;
+use crate::pair_key::{PairKey, Pairs};
 use dc_field::NoMemory;
 use std::alloc::Global;
 use std::marker::Model;
@@ -22,7 +21,7 @@ pub struct KeyFile {
 }
 
 impl Model for KeyFile {
-    ghost use Rattle.dc_protocol.specs.Net.{Keys};
+    ghost use Rattle.dc_spec.specs.Pads.{Keys};
     ghost use Rattle.dc_formats.specs.KeyFile.{IsKeys};
 
     ghost Value = { Keys };
@@ -52,7 +51,7 @@ impl KeyFile {
     pub fn copy(&self, alloc: Global) -> Result<KeyFile, NoMemory>
         ensures { IfOk result (λ f. f ≡ self.now) }
     {
-        let pairs = self.pairs.copy(alloc)?;
+        let pairs = self.pairs.copy_each(alloc)?;
         Ok(KeyFile {
             stations: self.stations,
             words: self.words,

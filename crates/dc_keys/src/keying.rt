@@ -3,7 +3,7 @@
 ghost use Rattle.std.specs.Prelude.{◌≡◌, ◌+◌, ◌-◌, ◌*◌, ◌<◌, ◌≤◌, ℕ, length, slice_index, sum_by, All, take, drop};
 ghost use Rattle.std.specs.List.{range_with_len};
 ghost use Rattle.dc_spec.specs.Words.{IsSymbol};
-ghost use Rattle.dc_protocol.specs.PairKeys.{symbols, key_word as key_word_of};
+ghost use Rattle.dc_key_rules.specs.PairKeys.{symbols, key_word as key_word_of};
 
 use crate::adding::{add_products, reduced, widened};
 use crate::pair_key::PairKey;

@@ -5,13 +5,11 @@ mod adding;
 mod key_file;
 mod keying;
 mod pair_key;
-mod pairs;
 mod summed_pads;
 
 pub use key_file::KeyFile;
 pub use keying::key_word;
-pub use pair_key::PairKey;
-pub use pairs::Pairs;
+pub use pair_key::{PairKey, Pairs};
 pub use summed_pads::SummedPads;
 
 #[cfg(test)]

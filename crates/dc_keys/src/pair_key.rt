@@ -4,7 +4,7 @@ ghost use Rattle.std.specs.Prelude.{◌≡◌, ◌↔◌, ℕ, IsTrue, IfOk, Som
 ghost use Rattle.dc_spec.specs.Words.{IsSymbol};
 ghost use Rattle.dc_keys.specs.Pads.{IsPairKey};
 
-use dc_field::{NoMemory, Syms};
+use dc_field::{Items, NoMemory, Syms, TryClone};
 use std::alloc::Global;
 use std::marker::Model;
 
@@ -22,8 +22,11 @@ pub struct PairKey {
     pub b: Syms,
 }
 
+/// Pairs. In a key file they rise by their ends.
+pub type Pairs = Items<PairKey>;
+
 impl Model for PairKey {
-    ghost use Rattle.dc_protocol.specs.Net.{Pair};
+    ghost use Rattle.dc_spec.specs.Pads.{Pair};
     ghost use Rattle.dc_keys.specs.Pads.{IsPairKey};
 
     ghost Value = { Pair };
@@ -44,11 +47,11 @@ impl PairKey {
             None
         }
     }
+}
 
-    /// The same ends and pads again.
-    pub fn copy(&self, alloc: Global) -> Result<PairKey, NoMemory>
-        ensures { IfOk result (λ p. p ≡ self.now) }
-    {
+/// The same ends and pads again.
+impl TryClone for PairKey {
+    fn try_clone(&self, alloc: Global) -> Result<PairKey, NoMemory> {
         let a = copied(alloc, &self.a)?;
         let b = copied(alloc, &self.b)?;
         Ok(PairKey {

@@ -1,17 +1,16 @@
 //! The pads of one station, summed over its pairs.
 
 ghost use Rattle.std.specs.Prelude.{◌≡◌, ◌*◌, ◌≤◌, ◌<◌, ℕ, length, IfOk, All, filter};
-ghost use Rattle.dc_protocol.specs.Net.{Keys};
-ghost use Rattle.dc_protocol.specs.PairKeys.{key_sum, key_part};
+ghost use Rattle.dc_spec.specs.Pads.{Keys};
+ghost use Rattle.dc_key_rules.specs.PairKeys.{key_sum, key_part};
 ghost use Rattle.dc_formats.specs.KeyFile.{IsKeys};
 ghost use Rattle.dc_keys.specs.Pads.{IsPadded};
 ghost use Rattle.dc_keys.specs.StationPads.{is_side, station_pads, station_key};
 
 use crate::key_file::KeyFile;
 use crate::keying::key_after;
-use crate::pair_key::PairKey;
-use crate::pairs::Pairs;
-use dc_field::{NoMemory, Word};
+use crate::pair_key::{PairKey, Pairs};
+use dc_field::{NoMemory, TryClone, Word};
 use std::alloc::Global;
 use std::marker::Model;
 
@@ -100,7 +99,7 @@ fn side_pairs(alloc: Global, pairs: &[PairKey], side: Side, me: u16) -> Result<P
     let mut kept = Vec::new(alloc);
     for pair in pairs {
         if is_on(pair, side, me) {
-            kept.push(pair.copy(alloc)?)?;
+            kept.push(pair.try_clone(alloc)?)?;
         }
     }
     Ok(Pairs::from_vec(kept))

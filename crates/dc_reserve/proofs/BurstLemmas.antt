@@ -7,11 +7,11 @@ use Rattle.std.proofs.lemmas.Bool.Decides.{eqb_tells}
 use Rattle.std.proofs.lemmas.List.{get_or_append_left, get_or-append_right, append-nil}
 use Rattle.std.proofs.lemmas.Grind.{flat_map-append}
 use Rattle.dc_spec.specs.Bytes.{short_at}
-use Rattle.dc_protocol.specs.Values.{fifteen, word_count, word_limbs}
-use Rattle.dc_protocol.specs.Bursts.{BurstFault, burst_padding, word_at, carried, told_length, padding_fault, limb_fault, fault_at, burst_faults, Burst, goes_on, gave, void_burst, carried_message, judged_burst, burst_of}
-use Rattle.dc_protocol.proofs.BurstFaults.{fault_at-append}
-use Rattle.dc_protocol.proofs.Carried.{length-carried}
-use Rattle.dc_protocol.proofs.MessageBursts.{broken-burst, clean-ends, clean-goes}
+use Rattle.dc_spec.specs.Values.{fifteen, word_count, word_limbs}
+use Rattle.dc_station_rules.specs.Bursts.{BurstFault, burst_padding, word_at, carried, told_length, padding_fault, limb_fault, fault_at, burst_faults, Burst, goes_on, gave, void_burst, carried_message, judged_burst, burst_of}
+use Rattle.dc_station_rules.proofs.BurstFaults.{fault_at-append}
+use Rattle.dc_station_rules.proofs.Carried.{length-carried}
+use Rattle.dc_station_rules.proofs.MessageBursts.{broken-burst, clean-ends, clean-goes}
 use Rattle.dc_reserve.specs.declared.judge.BurstStep.{BurstStep}
 use Rattle.dc_reserve.specs.declared.judge.BurstStep.TheVariants.{Goes, Message, Void}
 use Rattle.dc_reserve.specs.declared.judge.Phase.{Phase}

@@ -3,7 +3,7 @@ use Rattle.std.proofs.Common.{◌≡◌, ℕ, zero, suc, ◌+◌, ◌-◌, ◌<�
 use Rattle.std.specs.List.{find, range_with_len}
 use Rattle.std.proofs.lemmas.Bool.{cases_lt}
 use Rattle.std.proofs.lemmas.Bool.Decides.{nat_tests}
-use Rattle.dc_protocol.specs.Cycles.{granted}
+use Rattle.dc_station_rules.specs.Cycles.{granted}
 use Rattle.dc_reserve.specs.Fields.{has_field, fields_of}
 
 -- two tests that agree leave the same numbers

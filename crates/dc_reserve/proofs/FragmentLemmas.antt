@@ -1,7 +1,7 @@
 -- A word by its symbols is a fragment.
 use Rattle.std.proofs.Common.{◌≡◌, ℕ, zero, suc, ◌+◌, ◌-◌, ◌*◌, ◌<◌, List, length, get_or, refl, sym, ◌∙◌, subst, arith, ext_get_or}
-use Rattle.dc_protocol.specs.Bursts.{burst_bytes, fragment, fragment_count}
-use Rattle.dc_protocol.proofs.Carried.{length-fragment, fragment-limb}
+use Rattle.dc_station_rules.specs.Bursts.{burst_bytes, fragment, fragment_count}
+use Rattle.dc_station_rules.proofs.Carried.{length-fragment, fragment-limb}
 
 -- the count of a fragment
 count-fragment : (message : List ℕ) (i : ℕ) → get_or (fragment message i) 0 0 ≡ fragment_count (length message) - i

@@ -3,12 +3,12 @@ use Rattle.std.proofs.Common.{◌≡◌, ℕ, zero, suc, ◌+◌, ◌-◌, ◌*�
 use Rattle.std.specs.Option.{option_or}
 use Rattle.std.proofs.lemmas.List.{get_or_append_left}
 use Rattle.dc_spec.specs.Bytes.{short_at}
-use Rattle.dc_protocol.specs.Values.{fifteen, word_count, word_limbs}
-use Rattle.dc_protocol.specs.Bursts.{burst_count, fragment_count, limb_fault}
-use Rattle.dc_protocol.proofs.GroupLemmas.{find-none, length-fifteen}
+use Rattle.dc_spec.specs.Values.{fifteen, word_count, word_limbs}
+use Rattle.dc_station_rules.specs.Bursts.{burst_count, fragment_count, limb_fault}
+use Rattle.dc_spec.proofs.GroupLemmas.{find-none, length-fifteen}
 use Rattle.std.proofs.lemmas.Bool.{and_parts}
-use Rattle.dc_protocol.proofs.Options.{or-none, map-none, if-none}
-use Rattle.dc_protocol.proofs.Carried.{enough}
+use Rattle.dc_spec.proofs.Options.{or-none, map-none, if-none}
+use Rattle.dc_station_rules.proofs.Carried.{enough}
 use Rattle.dc_reserve.specs.declared.judge.BurstStep.{BurstStep}
 use Rattle.dc_reserve.specs.declared.judge.BurstStep.TheVariants.{Goes, Message, Void}
 use Rattle.dc_reserve.specs.declared.judge.Phase.{Phase}

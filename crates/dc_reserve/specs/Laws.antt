@@ -1,6 +1,7 @@
 -- The laws of bursts, each proved as the contract of a function of laws.rt.
 use Rattle.std.specs.Prelude.{◌≡◌, ℕ, ◌+◌, ◌*◌, ◌≤◌, List, length}
-use Rattle.dc_protocol.specs.Bursts.{IsMessage, fragments, gave, burst_of}
+use Rattle.dc_spec.specs.Entries.{IsMessage}
+use Rattle.dc_station_rules.specs.Bursts.{fragments, gave, burst_of}
 
 -- the fragments of a message, received as they are, give it
 abbrev pub FragmentsGiveTheirMessage : Type 0

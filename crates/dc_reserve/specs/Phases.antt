@@ -3,8 +3,8 @@ use Rattle.std.specs.Prelude.{◌≡◌, ℕ, ◌+◌, ◌-◌, ◌*◌, ◌≤�
 use Rattle.std.specs.List.{find, range_with_len}
 use Rattle.std.specs.Option.{option_or}
 use Rattle.dc_spec.specs.Bytes.{short_at}
-use Rattle.dc_protocol.specs.Values.{word_count, word_limbs}
-use Rattle.dc_protocol.specs.Bursts.{BurstFault, burst_count, burst_limb, burst_length, burst_padding, fragment_count, limb_fault}
+use Rattle.dc_spec.specs.Values.{word_count, word_limbs}
+use Rattle.dc_station_rules.specs.Bursts.{BurstFault, burst_count, burst_limb, burst_length, burst_padding, fragment_count, limb_fault}
 use Rattle.dc_reserve.specs.declared.judge.BadBurst.{BadBurst}
 use Rattle.dc_reserve.specs.declared.judge.BadBurst.TheVariants.{Count, Limb, Length, Padding}
 use Rattle.dc_reserve.specs.declared.judge.BurstStep.{BurstStep}

@@ -1,7 +1,7 @@
 -- A burst as the code keeps it, against the words that were received since its restart.
 use Rattle.std.specs.Prelude.{◌≡◌, ℕ, ◌+◌, ◌-◌, ◌≤◌, List, [], length, take, drop}
-use Rattle.dc_protocol.specs.Values.{word_count}
-use Rattle.dc_protocol.specs.Bursts.{word_at, carried, Burst, goes_on, gave, void_burst, burst_of}
+use Rattle.dc_spec.specs.Values.{word_count}
+use Rattle.dc_station_rules.specs.Bursts.{word_at, carried, Burst, goes_on, gave, void_burst, burst_of}
 use Rattle.dc_reserve.specs.declared.judge.BurstStep.{BurstStep}
 use Rattle.dc_reserve.specs.declared.judge.BurstStep.TheVariants.{Goes, Message, Void}
 use Rattle.dc_reserve.specs.declared.judge.Phase.{Phase}

@@ -1,7 +1,7 @@
 //! A burst: words are taken one after the other, and a message comes out.
 
 ghost use Rattle.std.specs.Prelude.{◌≡◌, ℕ, ◌+◌, ◌*◌, ◌≤◌, List, [], ◌∷◌, ◌++◌, IfOk, length};
-ghost use Rattle.dc_protocol.specs.Bursts.{burst_of, gave};
+ghost use Rattle.dc_station_rules.specs.Bursts.{burst_of, gave};
 ghost use Rattle.dc_reserve.specs.Phases.{IsGoing, MayFollow, phase_after};
 ghost use Rattle.dc_reserve.specs.StandsFor.{IsAfter, IsWhole, StandsFor, Tells};
 

@@ -2,7 +2,7 @@
 
 ghost use Rattle.std.specs.Prelude.{◌≡◌, ℕ, ◌-◌, ◌<◌, ◌==◌, ◌≤◌, IfSome, nat_le, slice_index};
 ghost use Rattle.std.specs.List.{find, range_with_len};
-ghost use Rattle.dc_protocol.specs.Cycles.{granted};
+ghost use Rattle.dc_station_rules.specs.Cycles.{granted};
 ghost use Rattle.dc_reserve.specs.Fields.{fields_of, has_field};
 
 use dc_field::Word;

@@ -1,7 +1,7 @@
 //! The fragments of a message.
 
 ghost use Rattle.std.specs.Prelude.{◌≡◌, ◌+◌, ◌-◌, ◌*◌, ◌<◌, ◌≤◌, length, slice_index};
-ghost use Rattle.dc_protocol.specs.Bursts.{burst_bytes, fragment, fragment_count};
+ghost use Rattle.dc_station_rules.specs.Bursts.{burst_bytes, fragment, fragment_count};
 
 use dc_field::{Sym, Word};
 

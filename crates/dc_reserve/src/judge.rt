@@ -3,7 +3,7 @@
 ghost use Rattle.std.specs.Prelude.{◌≡◌, ℕ, true, ◌+◌, ◌-◌, ◌*◌, ◌<◌, ◌≤◌, ◌==◌, [], ◌∷◌, ◌++◌, IfSome, length, not, slice_index, nat_lt, vec_capacity, option_map};
 ghost use Rattle.std.specs.List.{find, range_with_len};
 ghost use Rattle.dc_spec.specs.Bytes.{short_at};
-ghost use Rattle.dc_protocol.specs.Values.{word_count, word_limbs};
+ghost use Rattle.dc_spec.specs.Values.{word_count, word_limbs};
 ghost use Rattle.dc_reserve.specs.Phases.{Fits, IsGoing, Leads, count_allowed, own_fault, told_fault, first_length_fault};
 
 use crate::fragments::fragment_count;

@@ -8,7 +8,7 @@ pub fn fragments_give_their_message()
 {}
 
 /// Two of the fifteen bytes a word are the length.
-#[tactic(auto, using(dc_protocol::proofs::MessageBursts::short_message))]
+#[tactic(auto, using(dc_station_rules::proofs::MessageBursts::short_message))]
 pub fn messages_are_short()
     ensures { MessagesAreShort }
 {}

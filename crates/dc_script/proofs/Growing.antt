@@ -9,7 +9,7 @@ use Rattle.std.proofs.lemmas.List.Elements.{All-append, All-nil, All-cons}
 use Rattle.std.proofs.lemmas.Grind.{flat_map-append}
 use Rattle.std.proofs.lemmas.Bool.{not-false}
 use Rattle.dc_spec.specs.Text.{line}
-use Rattle.dc_protocol.specs.Net.{Delivery, all_sum, each, Turn}
+use Rattle.dc_spec.specs.Scripts.{Delivery, all_sum, each, Turn}
 use Rattle.dc_formats.specs.WordLines.{station_word_line}
 use Rattle.dc_formats.specs.ScriptFile.{turn_lines, AreStationWords, IsTurn, IsScript}
 use Rattle.dc_script.specs.declared.fault.ScriptKind.{ScriptKind}

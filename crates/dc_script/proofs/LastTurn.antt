@@ -4,7 +4,7 @@ use Rattle.std.specs.Prelude.{nat_le}
 use Rattle.std.proofs.Math.Seq.{take-append_seam, get_or-append_seam}
 use Rattle.std.proofs.lemmas.Bool.{le-leb, ne_eqb}
 use Rattle.std.proofs.lemmas.List.{length-append}
-use Rattle.dc_protocol.specs.Net.{all_sum, each, Turn}
+use Rattle.dc_spec.specs.Scripts.{all_sum, each, Turn}
 use Rattle.dc_script.specs.declared.fault.ScriptKind.TheVariants.{Misplaced, Order}
 use Rattle.dc_script.specs.Turns.{begun_turn, last_turn, with_last, is_undelivered, is_waiting, is_next, with_say, with_all, with_to}
 

@@ -1,6 +1,6 @@
 -- Line after line is read, and the rest is left.
 use Rattle.std.proofs.Common.{◌≡◌, ℕ, ◌+◌, ◌-◌, ◌^◌, min, List, [], ◌∷◌, length, drop, Result, Ok, Err, refl, ◌∙◌, ap, arith}
-use Rattle.dc_protocol.specs.Net.{Turn}
+use Rattle.dc_spec.specs.Scripts.{Turn}
 use Rattle.dc_formats.specs.TextFile.{file_lines}
 use Rattle.dc_text.specs.Lines.{told_line, and_then, with_lines, IsFirstLine, BeginsWithoutText}
 use Rattle.dc_text.proofs.LineByLine.{line_read, line_refused, no_text_refused}

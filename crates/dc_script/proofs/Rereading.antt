@@ -11,7 +11,7 @@ use Rattle.std.proofs.lemmas.List.Elements.{All-append, All-nil, All-cons, All-h
 use Rattle.std.proofs.lemmas.Slice.Eq.{bytes_eq-Decides}
 use Rattle.dc_spec.specs.Words.{IsWord}
 use Rattle.dc_spec.specs.Text.{line, word_text}
-use Rattle.dc_protocol.specs.Net.{Delivery, all_sum, each, Turn}
+use Rattle.dc_spec.specs.Scripts.{Delivery, all_sum, each, Turn}
 use Rattle.dc_formats.specs.TextFile.{IsTextLine, text_file, Line, ended, file_lines}
 use Rattle.dc_formats.specs.ScriptFile.{AreStationWords, IsTurn, IsScript, script_text}
 use Rattle.dc_formats.proofs.FileLines.{lines_of_text_file, text_file_of_lines}

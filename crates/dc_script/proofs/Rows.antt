@@ -3,7 +3,7 @@ use Rattle.std.proofs.Common.{◌≡◌, ℕ, List, [], ◌∷◌, ◌++◌, Ok,
 use Rattle.std.specs.Prelude.{codes, replicate}
 use Rattle.std.specs.Fmt.{digits}
 use Rattle.dc_spec.specs.Words.{word_of, zero_word}
-use Rattle.dc_protocol.specs.Net.{all_sum, each}
+use Rattle.dc_spec.specs.Scripts.{all_sum, each}
 use Rattle.dc_script.specs.declared.fault.ScriptKind.TheVariants.{NotText, Header, Form, Round, Misplaced, Order, Missing}
 use Rattle.dc_script.specs.Reading.{at_line, script_of}
 

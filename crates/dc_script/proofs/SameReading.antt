@@ -1,6 +1,6 @@
 -- Reading by lines and reading by turns are the same.
 use Rattle.std.proofs.Common.{◌≡◌, ℕ, ◌+◌, List, [], ◌∷◌, ◌++◌, length, Option, Some, None, Result, Ok, Err, refl, ◌∙◌, ap}
-use Rattle.dc_protocol.specs.Net.{Turn}
+use Rattle.dc_spec.specs.Scripts.{Turn}
 use Rattle.dc_formats.specs.TextFile.{Line, file_lines}
 use Rattle.dc_text.specs.Lines.{text_in, told_line, with_line, and_then, with_lines}
 use Rattle.dc_script.specs.declared.fault.ScriptFault.{ScriptFault}

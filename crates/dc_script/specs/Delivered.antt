@@ -1,5 +1,5 @@
 -- A declared delivery as the protocol's.
-use Rattle.dc_protocol.specs.Net.{Delivery as Delivered, all_sum, each}
+use Rattle.dc_spec.specs.Scripts.{Delivery as Delivered, all_sum, each}
 use Rattle.dc_script.specs.declared.delivery.Delivery.{Delivery}
 use Rattle.dc_script.specs.declared.delivery.Delivery.TheVariants.{Sum, Each}
 

@@ -1,7 +1,7 @@
 -- The fault of a line by the lines before it, and the turns that lines make.
 use Rattle.std.specs.Prelude.{ℕ, ◌-◌, ◌==◌, Bool, true, false, not, ◌&&◌, ◌||◌, List, [], ◌∷◌, length, map, slice_index_or, nat_le, Option, Some, None, if◌then◌else◌}
 use Rattle.std.specs.List.{filter_map, list_any}
-use Rattle.dc_protocol.specs.Net.{all_sum, each, Turn}
+use Rattle.dc_spec.specs.Scripts.{all_sum, each, Turn}
 use Rattle.dc_script.specs.declared.fault.ScriptKind.{ScriptKind}
 use Rattle.dc_script.specs.declared.fault.ScriptKind.TheVariants.{Round, TooMany, Misplaced, Order, Missing}
 use Rattle.dc_script.specs.declared.item.Item.{Item}

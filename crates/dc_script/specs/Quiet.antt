@@ -1,7 +1,7 @@
 -- The script of a coalition that says nothing.
 use Rattle.std.specs.Prelude.{ℕ, List, map, replicate}
 use Rattle.dc_spec.specs.Words.{zero_word}
-use Rattle.dc_protocol.specs.Net.{all_sum, Turn}
+use Rattle.dc_spec.specs.Scripts.{all_sum, Turn}
 
 -- each member with the zero word
 abbrev pub quiet_says : List ℕ → List (ℕ × List ℕ)

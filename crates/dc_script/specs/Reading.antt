@@ -1,6 +1,6 @@
 -- Reading a script: the head line, then line after line, then the end.
 use Rattle.std.specs.Prelude.{ℕ, ◌+◌, List, [], ◌∷◌, ◌++◌, length, Option, Some, None, Result, Ok, Err, bytes_eq, if◌then◌else◌, codes}
-use Rattle.dc_protocol.specs.Net.{Turn}
+use Rattle.dc_spec.specs.Scripts.{Turn}
 use Rattle.dc_formats.specs.TextFile.{Line, file_lines}
 use Rattle.dc_text.specs.Lines.{text_in, told_line, and_then, with_lines}
 use Rattle.dc_script.specs.declared.fault.ScriptFault.{ScriptFault}

@@ -1,6 +1,6 @@
 -- Reading a script with the turns so far in place of the lines so far, which is as good.
 use Rattle.std.specs.Prelude.{ℕ, ◌+◌, List, [], length, Option, Some, None, Result, Ok, Err, if◌then◌else◌}
-use Rattle.dc_protocol.specs.Net.{Turn}
+use Rattle.dc_spec.specs.Scripts.{Turn}
 use Rattle.dc_formats.specs.TextFile.{Line, file_lines}
 use Rattle.dc_text.specs.Lines.{told_line, and_then, with_lines}
 use Rattle.dc_script.specs.declared.fault.ScriptFault.{ScriptFault}

@@ -1,6 +1,6 @@
 -- The turns that the lines so far make, and one line more. A turn has dealt no word until its delivery is known.
 use Rattle.std.specs.Prelude.{ℕ, ◌-◌, ◌^◌, ◌==◌, min, Bool, false, not, ◌&&◌, ◌||◌, List, [], ◌∷◌, ◌++◌, length, take, slice_index_or, nat_le, nat_lt, if◌then◌else◌, Result, Ok, Err}
-use Rattle.dc_protocol.specs.Net.{Delivery, all_sum, each, Turn}
+use Rattle.dc_spec.specs.Scripts.{Delivery, all_sum, each, Turn}
 use Rattle.dc_script.specs.declared.fault.ScriptKind.{ScriptKind}
 use Rattle.dc_script.specs.declared.fault.ScriptKind.TheVariants.{Round, TooMany, Misplaced, Order, Missing}
 use Rattle.dc_script.specs.declared.item.Item.{Item}

@@ -3,7 +3,7 @@
 ghost use Rattle.std.specs.Prelude.{◌≡◌, IfOk};
 ghost use Rattle.dc_script.specs.Delivered.{delivered};
 
-use crate::dealt::Dealt;
+use crate::said::Dealt;
 use dc_field::NoMemory;
 use std::alloc::Global;
 

@@ -1,27 +1,23 @@
 //! The script file: what a coalition says in each round, and what it delivers.
 #![tactic(auto)]
 
-mod dealt;
 mod delivery;
 mod fault;
 mod item;
 mod quiet_script;
 mod reading;
 mod round;
-mod rounds;
 mod said;
 mod script;
 mod turns;
 mod writing;
 
-pub use dealt::Dealt;
 pub use delivery::Delivery;
 pub use fault::{ScriptFault, ScriptKind};
 pub use quiet_script::quiet;
 pub use reading::read_script;
-pub use round::Round;
-pub use rounds::Rounds;
-pub use said::Said;
+pub use round::{Round, Rounds};
+pub use said::{Dealt, Said};
 pub use script::Script;
 pub use writing::script_text;
 

@@ -3,15 +3,13 @@
 ghost use Rattle.std.specs.Prelude.{◌≡◌, ◌<◌, ◌≤◌, IfOk, All, map, filter, replicate};
 ghost use Rattle.std.specs.List.{range_with_len};
 ghost use Rattle.dc_spec.specs.Words.{zero_word};
-ghost use Rattle.dc_protocol.specs.Graphs.{is_among};
+ghost use Rattle.dc_spec.specs.Lists.{is_among};
 ghost use Rattle.dc_graph.specs.Graph.{AreMembers};
 ghost use Rattle.dc_script.specs.Quiet.{quiet_says, quiet_turn, quiet_script};
 
-use crate::dealt::Dealt;
 use crate::delivery::Delivery;
-use crate::round::Round;
-use crate::rounds::Rounds;
-use crate::said::Said;
+use crate::round::{Round, Rounds};
+use crate::said::{Dealt, Said};
 use crate::script::Script;
 use dc_field::{NoMemory, Word};
 use dc_graph::Coalition;

@@ -1,7 +1,7 @@
 //! Reading a script.
 
 ghost use Rattle.std.specs.Prelude.{◌≡◌, ◌+◌, ◌≤◌, List, [], IfOk, Ok, drop, length};
-ghost use Rattle.dc_protocol.specs.Net.{Turn};
+ghost use Rattle.dc_spec.specs.Scripts.{Turn};
 ghost use Rattle.dc_formats.specs.TextFile.{file_lines};
 ghost use Rattle.dc_formats.specs.ScriptFile.{IsScript, script_text};
 ghost use Rattle.dc_text.specs.Lines.{and_then};
@@ -12,7 +12,7 @@ ghost use Rattle.dc_script.specs.TurnReading.{with_text, turns_in, after_head, s
 
 use crate::fault::{ScriptFault, ScriptKind};
 use crate::item::read_item;
-use crate::rounds::Rounds;
+use crate::round::Rounds;
 use crate::script::Script;
 use crate::turns::{is_waiting, with_item};
 use dc_field::Refusal;

@@ -2,9 +2,9 @@
 
 ghost use Rattle.std.specs.Prelude.{◌≡◌, IfOk};
 
-use crate::dealt::Dealt;
 use crate::delivery::Delivery;
-use dc_field::NoMemory;
+use crate::said::Dealt;
+use dc_field::{Items, NoMemory, TryClone};
 use std::alloc::Global;
 use std::marker::Model;
 
@@ -18,8 +18,11 @@ pub struct Round {
     pub delivery: Delivery,
 }
 
+/// Rounds, from round 0 on.
+pub type Rounds = Items<Round>;
+
 impl Model for Round {
-    ghost use Rattle.dc_protocol.specs.Net.{Turn};
+    ghost use Rattle.dc_spec.specs.Scripts.{Turn};
     ghost use Rattle.dc_script.specs.Delivered.{delivered};
 
     ghost Value = { Turn };
@@ -27,11 +30,9 @@ impl Model for Round {
     ghost view = { λ r. record { says = r.says; delivery = delivered r.delivery } };
 }
 
-impl Round {
-    /// The same round again.
-    pub fn copy(&self, alloc: Global) -> Result<Round, NoMemory>
-        ensures { IfOk result (λ r. r ≡ self.now) }
-    {
+/// The same round again.
+impl TryClone for Round {
+    fn try_clone(&self, alloc: Global) -> Result<Round, NoMemory> {
         let says = self.says.copy(alloc)?;
         let delivery = self.delivery.copy(alloc)?;
         Ok(Round { says, delivery })

@@ -1,6 +1,6 @@
 //! A station with a word.
 
-use dc_field::Word;
+use dc_field::{Items, Word};
 use std::marker::Model;
 
 /// A word that a station says, or that is dealt to a station. Contracts see the pair of the
@@ -12,6 +12,9 @@ pub struct Said {
     /// Its word.
     pub word: Word,
 }
+
+/// Stations with a word each. In a script they are rising.
+pub type Dealt = Items<Said>;
 
 impl Model for Said {
     ghost use Rattle.std.specs.Prelude.{ℕ, List};

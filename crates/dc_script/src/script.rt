@@ -3,8 +3,7 @@
 ghost use Rattle.std.specs.Prelude.{◌≡◌, ◌<◌, [], ◌∷◌, ◌++◌, IfOk, length};
 ghost use Rattle.dc_formats.specs.ScriptFile.{IsTurn};
 
-use crate::round::Round;
-use crate::rounds::Rounds;
+use crate::round::{Round, Rounds};
 use dc_field::NoMemory;
 use std::alloc::Global;
 use std::marker::Model;
@@ -19,7 +18,7 @@ pub struct Script {
 
 impl Model for Script {
     ghost use Rattle.std.specs.Prelude.{List};
-    ghost use Rattle.dc_protocol.specs.Net.{Turn};
+    ghost use Rattle.dc_spec.specs.Scripts.{Turn};
     ghost use Rattle.dc_formats.specs.ScriptFile.{IsScript};
 
     ghost Value = { List Turn };
@@ -57,7 +56,7 @@ impl Script {
     pub fn copy(&self, alloc: Global) -> Result<Script, NoMemory>
         ensures { IfOk result (λ s. s ≡ self.now) }
     {
-        let rounds = self.rounds.copy(alloc)?;
+        let rounds = self.rounds.copy_each(alloc)?;
         Ok(Script { rounds })
     }
 }

@@ -3,18 +3,16 @@
 ghost use Rattle.std.specs.Prelude.{◌≡◌, ◌++◌, ◌∷◌, [], List, IfOk, IsNone, IfSome, ◌↔◌, ◌-◌, length, take};
 ghost use Rattle.dc_field.specs.Answers.{Answers};
 ghost use Rattle.dc_field.specs.declared.refusal.Refusal.TheVariants.{Bad};
-ghost use Rattle.dc_protocol.specs.Net.{Turn};
+ghost use Rattle.dc_spec.specs.Scripts.{Turn};
 ghost use Rattle.dc_script.specs.declared.fault.ScriptKind.TheVariants.{Order};
 ghost use Rattle.dc_script.specs.Delivered.{delivered};
 ghost use Rattle.dc_script.specs.Turns.{begun_turn, last_turn, is_undelivered, is_waiting, told_count, is_next, with_round, with_said, with_say, with_all, with_dealt, with_to, with_item};
 
-use crate::dealt::Dealt;
 use crate::delivery::Delivery;
 use crate::fault::ScriptKind;
 use crate::item::Item;
-use crate::round::Round;
-use crate::rounds::Rounds;
-use crate::said::Said;
+use crate::round::{Round, Rounds};
+use crate::said::{Dealt, Said};
 use dc_field::Refusal;
 use std::alloc::Global;
 

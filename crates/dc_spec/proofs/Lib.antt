@@ -1,3 +1,9 @@
-pub mod WordLemmas
+pub mod Booleans
 pub mod ByteLemmas
+pub mod GroupLemmas
+pub mod InverseLemmas
+pub mod ListLemmas
+pub mod Options
+pub mod SumLemmas
 pub mod TextLemmas
+pub mod WordLemmas

@@ -3,10 +3,10 @@ use Rattle.std.proofs.Common.{◌≡◌, ℕ, ◌+◌, List, [], ◌∷◌, ◌+
 use Rattle.std.proofs.lemmas.List.{take-append-drop, map-append}
 use Rattle.std.proofs.lemmas.Option.{slice_get_within, get_or_from_slice_get}
 use Rattle.std.proofs.Math.Seq.{take-suc}
-use Rattle.dc_protocol.specs.Net.{Entry}
-use Rattle.dc_protocol.specs.Epochs.{Leaf}
-use Rattle.dc_protocol.specs.Stations.{leaf_entry}
-use Rattle.dc_protocol.proofs.FewEntries.{bytes_in-append}
+use Rattle.dc_spec.specs.Entries.{Entry}
+use Rattle.dc_station_rules.specs.Epochs.{Leaf}
+use Rattle.dc_station_rules.specs.Stations.{leaf_entry}
+use Rattle.dc_station_rules.proofs.FewEntries.{bytes_in-append}
 use Rattle.dc_station.specs.Logs.{Fits}
 
 -- entries fit where they fit with more at their end

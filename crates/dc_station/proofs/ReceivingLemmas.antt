@@ -1,11 +1,11 @@
 -- What a word makes of a receiver that stands for the words before it.
 use Rattle.std.proofs.Common.{◌≡◌, ℕ, ◌+◌, ◌<◌, Bool, true, false, List, [], ◌∷◌, ◌++◌, length, map, Option, Some, refl, sym, ap, ◌∙◌, subst, inl, inr, arith, length-append}
 use Rattle.std.proofs.lemmas.List.{append-nil}
-use Rattle.dc_protocol.specs.Net.{Stream, long}
-use Rattle.dc_protocol.specs.Bursts.{burst_of, has_ended, gave, message_of}
-use Rattle.dc_protocol.specs.Epochs.{epoch_of, is_over, leaves_at}
-use Rattle.dc_protocol.specs.Cycles.{Cycle, History, with_epoch, opened, granted, fields_left, history_of, place_of}
-use Rattle.dc_protocol.specs.Stations.{leaf_entry, log_of}
+use Rattle.dc_spec.specs.Entries.{Stream, long}
+use Rattle.dc_station_rules.specs.Bursts.{burst_of, has_ended, gave, message_of}
+use Rattle.dc_station_rules.specs.Epochs.{epoch_of, is_over, leaves_at}
+use Rattle.dc_station_rules.specs.Cycles.{Cycle, History, with_epoch, opened, granted, fields_left, history_of, place_of}
+use Rattle.dc_station_rules.specs.Stations.{leaf_entry, log_of}
 use Rattle.dc_reserve.specs.Fields.{fields_of}
 use Rattle.dc_reserve.specs.StandsFor.{State as BurstState, StandsFor as BurstStandsFor}
 use Rattle.dc_reserve.specs.declared.judge.BurstStep.TheVariants.{Goes, Message as GivesMessage, Void}
@@ -18,7 +18,7 @@ use Rattle.dc_station.specs.declared.receiver.Came.TheVariants.{Nothing, Message
 use Rattle.dc_station.specs.Logs.{Fits, Kept}
 use Rattle.dc_station.specs.Receiving.{phase_at, phase_after, index_of, fields_from, MayTake, IsReady, InBurst, InPhase, Receives, IsAt, Takes, TakesNext}
 use Rattle.dc_station.proofs.FieldLemmas.{fields_from-zero}
-use Rattle.dc_protocol.proofs.StationSteps.{reserves, burst_goes_on, BurstEnds, burst_ends, epoch_takes, with_ended, since_then, logs_fit}
+use Rattle.dc_station_rules.proofs.StationSteps.{reserves, burst_goes_on, BurstEnds, burst_ends, epoch_takes, with_ended, since_then, logs_fit}
 
 -- a stream with nothing to say
 abbrev nothing : Stream

@@ -3,8 +3,8 @@ use Rattle.std.proofs.Common.{◌≡◌, ℕ, ◌+◌, ◌*◌, ◌<◌, ◌≤�
 use Rattle.std.specs.List.{AllByRecursion}
 use Rattle.std.proofs.Math.Seq.{drop-append_seam}
 use Rattle.std.proofs.lemmas.List.{map-append, take-append-le, drop-append-le}
-use Rattle.dc_protocol.specs.Net.{Entry, entry_bytes, bytes_in}
-use Rattle.dc_protocol.proofs.FewEntries.{bytes_in-append}
+use Rattle.dc_spec.specs.Entries.{Entry, entry_bytes, bytes_in}
+use Rattle.dc_station_rules.proofs.FewEntries.{bytes_in-append}
 use Rattle.dc_station.specs.declared.log.Kind.{Kind}
 use Rattle.dc_station.specs.declared.log.Kind.TheVariants.{Short, Long}
 use Rattle.dc_station.specs.declared.log.Row.{Row}

@@ -6,12 +6,12 @@ use Rattle.std.proofs.lemmas.List.{get_or-set_same, get_or-set_other}
 use Rattle.std.proofs.lemmas.List.Folds.{list_any_more}
 use Rattle.std.proofs.lemmas.Option.{slice_get_within, get_or_from_slice_get}
 use Rattle.std.proofs.Math.Bool.{or-false}
-use Rattle.dc_protocol.proofs.GraphLemmas.{or_second}
+use Rattle.dc_spec.proofs.Booleans.{or_second}
 use Rattle.dc_spec.specs.Words.{zero_word}
 use Rattle.dc_spec.proofs.WordLemmas.{length-word_of, symbol-word_of, word_from_symbols}
-use Rattle.dc_protocol.specs.Net.{Stream}
-use Rattle.dc_protocol.specs.Epochs.{Leaf}
-use Rattle.dc_protocol.specs.Stations.{next_mark, mark_word, is_leaf_of}
+use Rattle.dc_spec.specs.Entries.{Stream}
+use Rattle.dc_station_rules.specs.Epochs.{Leaf}
+use Rattle.dc_station_rules.specs.Stations.{next_mark, mark_word, is_leaf_of}
 use Rattle.dc_station.specs.declared.sender.Sender.{Sender}
 use Rattle.dc_station.specs.Sending.{if_any, shorts_of, IsUsable, SendsShort, SendsLong}
 

@@ -4,13 +4,13 @@ use Rattle.std.specs.List.{list_any}
 use Rattle.std.specs.Option.{option_to_list}
 use Rattle.std.specs.Str.{bytes_eq}
 use Rattle.std.specs.Cmp.Lexicographic.{same_text}
-use Rattle.dc_protocol.specs.Net.{Stream, short, long}
-use Rattle.dc_protocol.specs.Bursts.{burst_of, has_ended, message_of}
-use Rattle.dc_protocol.specs.Epochs.{Leaf, epoch_of, leaves_at}
-use Rattle.dc_protocol.specs.Cycles.{Cycle, at_reservation, in_burst, in_epoch, place_in, opened, fields_left, words_for, history_of}
-use Rattle.dc_protocol.specs.Stations.{marked, gave_message, first_long, cycle_leaves, longs_sent, first_short, is_leaf_of, shorts_sent, left_by, left_after, sent_of, pending_of, plain_word, word_for, mark_word, burst_word, epoch_word}
-use Rattle.dc_protocol.proofs.CycleSteps.{no-shorts}
-use Rattle.dc_protocol.proofs.StationSteps.{at_cycle, since_then, with_ended, sent_by, unless_sent, reserves, burst_goes_on, burst_ends, epoch_takes, left_after-push, sents_fit}
+use Rattle.dc_spec.specs.Entries.{Stream, short, long}
+use Rattle.dc_station_rules.specs.Bursts.{burst_of, has_ended, message_of}
+use Rattle.dc_station_rules.specs.Epochs.{Leaf, epoch_of, leaves_at}
+use Rattle.dc_station_rules.specs.Cycles.{Cycle, at_reservation, in_burst, in_epoch, place_in, opened, fields_left, words_for, history_of}
+use Rattle.dc_station_rules.specs.Stations.{marked, gave_message, first_long, cycle_leaves, longs_sent, first_short, is_leaf_of, shorts_sent, left_by, left_after, sent_of, pending_of, plain_word, word_for, mark_word, burst_word, epoch_word}
+use Rattle.dc_station_rules.proofs.CycleSteps.{no-shorts}
+use Rattle.dc_station_rules.proofs.StationSteps.{at_cycle, since_then, with_ended, sent_by, unless_sent, reserves, burst_goes_on, burst_ends, epoch_takes, left_after-push, sents_fit}
 use Rattle.dc_reserve.specs.StandsFor.{State as BurstState}
 use Rattle.dc_average.specs.StandsFor.{State as EpochState, StandsFor as EpochStandsFor}
 use Rattle.dc_station.specs.declared.phase.Phase.TheVariants.{Reserve, Burst, Epoch}

@@ -1,5 +1,5 @@
 -- An entry given out, as an entry of the definitions.
-use Rattle.dc_protocol.specs.Net.{Entry as net_entry, short, long}
+use Rattle.dc_spec.specs.Entries.{Entry as net_entry, short, long}
 use Rattle.dc_station.specs.declared.entry.Entry.{Entry}
 use Rattle.dc_station.specs.declared.entry.Entry.TheVariants.{Short, Long}
 

@@ -1,7 +1,7 @@
 -- What a sender learns from what came of a word.
 use Rattle.std.specs.Prelude.{◌≡◌, ℕ, Bool, true, false, List}
-use Rattle.dc_protocol.specs.Bursts.{burst_of, gave}
-use Rattle.dc_protocol.specs.Epochs.{Leaf}
+use Rattle.dc_station_rules.specs.Bursts.{burst_of, gave}
+use Rattle.dc_station_rules.specs.Epochs.{Leaf}
 use Rattle.dc_reserve.specs.StandsFor.{State as BurstState, StandsFor as BurstStandsFor}
 use Rattle.dc_station.specs.declared.receiver.Receiver.{Receiver}
 use Rattle.dc_station.specs.declared.receiver.Came.{Came}

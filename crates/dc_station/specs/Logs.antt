@@ -1,7 +1,7 @@
 -- Logs as the code keeps them: the bytes of all entries, and for each entry where its bytes lie.
 use Rattle.std.specs.Prelude.{◌≡◌, ℕ, ◌+◌, ◌*◌, ◌≤◌, List, length, map, take, drop, Option, Some, None}
 use Rattle.std.specs.List.{AllByRecursion}
-use Rattle.dc_protocol.specs.Net.{Entry, short, long, bytes_in}
+use Rattle.dc_spec.specs.Entries.{Entry, short, long, bytes_in}
 use Rattle.dc_station.specs.declared.log.Kind.{Kind}
 use Rattle.dc_station.specs.declared.log.Kind.TheVariants.{Short, Long}
 use Rattle.dc_station.specs.declared.log.Row.{Row}

@@ -1,9 +1,9 @@
 -- A receiver as the code keeps it, against the words that were received.
 use Rattle.std.specs.Prelude.{◌≡◌, ℕ, ◌+◌, ◌<◌, ◌≤◌, Bool, true, false, ◌⊎◌, List, [], ◌∷◌, ◌++◌, length, filter, nat_le, Option, Some, None}
-use Rattle.dc_protocol.specs.Bursts.{burst_of, gave, message_of}
-use Rattle.dc_protocol.specs.Epochs.{Leaf, epoch_of, is_over, leaves_at}
-use Rattle.dc_protocol.specs.Cycles.{Cycle, Place, at_reservation, in_burst, in_epoch, fields_left, history_of}
-use Rattle.dc_protocol.specs.Stations.{log_of}
+use Rattle.dc_station_rules.specs.Bursts.{burst_of, gave, message_of}
+use Rattle.dc_station_rules.specs.Epochs.{Leaf, epoch_of, is_over, leaves_at}
+use Rattle.dc_station_rules.specs.Cycles.{Cycle, Place, at_reservation, in_burst, in_epoch, fields_left, history_of}
+use Rattle.dc_station_rules.specs.Stations.{log_of}
 use Rattle.dc_reserve.specs.Fields.{fields_of}
 use Rattle.dc_reserve.specs.Phases.{IsGoing}
 use Rattle.dc_reserve.specs.StandsFor.{State as BurstState, StandsFor as BurstStandsFor, IsWhole, IsAfter, Tells}

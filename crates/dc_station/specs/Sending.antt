@@ -3,11 +3,11 @@ use Rattle.std.specs.Prelude.{◌≡◌, ℕ, ◌+◌, ◌≤◌, Bool, true, fa
 use Rattle.std.specs.Str.{bytes_eq}
 use Rattle.dc_spec.specs.Words.{zero_word}
 use Rattle.dc_formats.specs.StreamFile.{IsStream}
-use Rattle.dc_protocol.specs.Net.{short, long, Stream}
-use Rattle.dc_protocol.specs.Values.{contended_word}
-use Rattle.dc_protocol.specs.Bursts.{fragment, fragment_count}
-use Rattle.dc_protocol.specs.Epochs.{Leaf, Epoch, calls}
-use Rattle.dc_protocol.specs.Stations.{coins_used, first_short, marked}
+use Rattle.dc_spec.specs.Entries.{short, long, Stream}
+use Rattle.dc_spec.specs.Values.{contended_word}
+use Rattle.dc_station_rules.specs.Bursts.{fragment, fragment_count}
+use Rattle.dc_station_rules.specs.Epochs.{Leaf, Epoch, calls}
+use Rattle.dc_station_rules.specs.Stations.{coins_used, first_short, marked}
 use Rattle.dc_station.specs.declared.sender.Sender.{Sender}
 use Rattle.dc_station.specs.Logs.{Fits}
 

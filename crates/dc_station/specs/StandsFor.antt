@@ -1,8 +1,8 @@
 -- A station as the code keeps it, against its stream and the words that it received.
 use Rattle.std.specs.Prelude.{◌≡◌, ℕ, Bool, false, List, length, Option, Some, None}
-use Rattle.dc_protocol.specs.Net.{Entry, Stream}
-use Rattle.dc_protocol.specs.Cycles.{Cycle, history_of}
-use Rattle.dc_protocol.specs.Stations.{left_after, longs_sent, sent_of, shorts_sent}
+use Rattle.dc_spec.specs.Entries.{Entry, Stream}
+use Rattle.dc_station_rules.specs.Cycles.{Cycle, history_of}
+use Rattle.dc_station_rules.specs.Stations.{left_after, longs_sent, sent_of, shorts_sent}
 use Rattle.dc_station.specs.declared.sender.Sender.{Sender}
 use Rattle.dc_station.specs.Receiving.{Receives}
 use Rattle.dc_station.specs.Sending.{left, one_if}

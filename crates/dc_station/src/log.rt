@@ -1,7 +1,7 @@
 //! Logs: entries one after the other, in room that was taken at the start.
 
 ghost use Rattle.std.specs.Prelude.{◌≡◌, ◌+◌, ◌*◌, ◌^◌, ◌<◌, ◌≤◌, ◌↔◌, IsTrue, [], ◌∷◌, ◌++◌, IfOk, length, option_map, slice_get, vec_len, vec_capacity};
-ghost use Rattle.dc_protocol.specs.Net.{short, long, bytes_in, entry_bytes};
+ghost use Rattle.dc_spec.specs.Entries.{short, long, bytes_in, entry_bytes};
 ghost use Rattle.dc_station.specs.Entries.{entry_of};
 ghost use Rattle.dc_station.specs.Logs.{Fits, IsSized, entry_as, times_of};
 

@@ -1,7 +1,7 @@
 //! What a station makes of the words that it receives.
 
 ghost use Rattle.std.specs.Prelude.{◌≡◌, ℕ, ◌+◌, ◌<◌, ◌≤◌, [], ◌∷◌, ◌++◌, List, IfOk, length, map};
-ghost use Rattle.dc_protocol.specs.Stations.{leaf_entry};
+ghost use Rattle.dc_station_rules.specs.Stations.{leaf_entry};
 ghost use Rattle.dc_reserve.specs.Phases.{IsGoing};
 ghost use Rattle.dc_reserve.specs.StandsFor.{StandsFor as BurstStandsFor};
 ghost use Rattle.dc_average.specs.StandsFor.{is_done};

@@ -3,8 +3,8 @@
 ghost use Rattle.std.specs.Prelude.{◌≡◌, ℕ, ◌<◌, ◌≤◌, false, List, [], IfOk, IfSome, IsTrue, ◌↔◌, Some, drop, length, slice_get};
 ghost use Rattle.std.specs.List.{list_any};
 ghost use Rattle.dc_formats.specs.StreamFile.{IsStream};
-ghost use Rattle.dc_protocol.specs.Epochs.{epoch_of};
-ghost use Rattle.dc_protocol.specs.Stations.{burst_word, epoch_word, first_short, is_leaf_of, mark_word, marked};
+ghost use Rattle.dc_station_rules.specs.Epochs.{epoch_of};
+ghost use Rattle.dc_station_rules.specs.Stations.{burst_word, epoch_word, first_short, is_leaf_of, mark_word, marked};
 ghost use Rattle.dc_average.specs.StandsFor.{StandsFor as EpochStandsFor, is_done};
 ghost use Rattle.dc_station.specs.Sending.{Ends, IsUsable, SendsLong, SendsShort, if_any, is_first, is_mark, left, longs_of, one_if, shorts_of};
 

@@ -1,9 +1,9 @@
 //! A station: it says a word, receives the superposed word, and so on to the end of the session.
 
 ghost use Rattle.std.specs.Prelude.{◌≡◌, ℕ, ◌+◌, ◌<◌, ◌≤◌, List, [], ◌∷◌, ◌++◌, IfOk};
-ghost use Rattle.dc_protocol.specs.Net.{Stream as stream_record};
-ghost use Rattle.dc_protocol.specs.Cycles.{place_of};
-ghost use Rattle.dc_protocol.specs.Stations.{log_of, pending_counts, plain_word, sent_of};
+ghost use Rattle.dc_spec.specs.Entries.{Stream as stream_record};
+ghost use Rattle.dc_station_rules.specs.Cycles.{place_of};
+ghost use Rattle.dc_station_rules.specs.Stations.{log_of, pending_counts, plain_word, sent_of};
 ghost use Rattle.dc_station.specs.Receiving.{HasMessage, phase_at};
 ghost use Rattle.dc_station.specs.Sending.{IsUsable};
 ghost use Rattle.dc_station.specs.Hearing.{Hears, HearsLeaves};

@@ -2,8 +2,8 @@
 
 ghost use Rattle.std.specs.Prelude.{◌≡◌, ℕ, ◌<◌, ◌≤◌, false, List, All, Some, drop, length};
 ghost use Rattle.dc_formats.specs.StreamFile.{IsMessage};
-ghost use Rattle.dc_protocol.specs.Epochs.{epoch_of};
-ghost use Rattle.dc_protocol.specs.Stations.{epoch_word, long_word, mark_word};
+ghost use Rattle.dc_station_rules.specs.Epochs.{epoch_of};
+ghost use Rattle.dc_station_rules.specs.Stations.{epoch_word, long_word, mark_word};
 ghost use Rattle.dc_average.specs.StandsFor.{StandsFor as EpochStandsFor, is_done};
 ghost use Rattle.dc_station.specs.Sending.{fragment_word, value_word};
 

@@ -1,7 +1,7 @@
 -- Line after line of a stream file.
 use Rattle.std.proofs.Common.{◌≡◌, ℕ, ◌+◌, ◌-◌, ◌≤◌, List, length, take, drop, Ok, Err, sym, ◌∙◌, ap, subst, arith}
 use Rattle.std.proofs.lemmas.List.{take_rest, length-drop}
-use Rattle.dc_protocol.specs.Net.{Stream}
+use Rattle.dc_spec.specs.Entries.{Stream}
 use Rattle.dc_field.specs.declared.refusal.Refusal.{Refusal}
 use Rattle.dc_field.specs.declared.refusal.Refusal.TheVariants.{Bad}
 use Rattle.dc_field.specs.Answers.{Answers}

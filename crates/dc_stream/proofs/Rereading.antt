@@ -10,8 +10,8 @@ use Rattle.std.proofs.lemmas.List.Folds.{flat_map-map}
 use Rattle.std.proofs.lemmas.Slice.Eq.{bytes_eq-Decides}
 use Rattle.std.proofs.lemmas.Bool.{not-false}
 use Rattle.dc_spec.specs.Text.{line}
-use Rattle.dc_protocol.specs.Net.{Stream}
-use Rattle.dc_protocol.specs.Values.{IsValue}
+use Rattle.dc_spec.specs.Entries.{Stream}
+use Rattle.dc_spec.specs.Values.{IsValue}
 use Rattle.dc_formats.specs.TextFile.{AreBytes, IsTextLine, text_file, hex_text, file_lines}
 use Rattle.dc_formats.specs.StreamFile.{short_line, long_line, coin_line, stream_text, IsMessage, IsStream}
 use Rattle.dc_formats.proofs.Pieces.{AreFigures, bytes_of, hex_text_figures, decimal_figures}

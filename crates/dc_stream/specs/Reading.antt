@@ -1,7 +1,7 @@
 -- Reading a stream file: the tests of a line in their order, and what the lines make of a stream.
 use Rattle.std.specs.Prelude.{ℕ, ◌-◌, ◌^◌, min, not, ◌&&◌, List, [], ◌∷◌, ◌++◌, length, drop, Option, Some, None, Result, Ok, Err, nat_eq, nat_le, nat_lt, ◌==◌, if◌then◌else◌, codes}
 use Rattle.std.specs.List.{starts_with}
-use Rattle.dc_protocol.specs.Net.{Stream}
+use Rattle.dc_spec.specs.Entries.{Stream}
 use Rattle.dc_formats.specs.TextFile.{file_lines}
 use Rattle.dc_field.specs.NumberInText.{number_in}
 use Rattle.dc_text.specs.Lines.{with_lines}

@@ -2,15 +2,13 @@
 #![tactic(auto)]
 
 mod fault;
-mod lists;
 mod reading;
 mod stream;
 mod writing;
 
 pub use fault::{StreamFault, StreamKind};
-pub use lists::{Longs, Shorts};
 pub use reading::read_stream;
-pub use stream::Stream;
+pub use stream::{Longs, Shorts, Stream};
 pub use writing::stream_text;
 
 #[cfg(test)]

@@ -1,7 +1,7 @@
 //! Reading a stream file.
 
 ghost use Rattle.std.specs.Prelude.{◌≡◌, IfOk, IsSome, Ok, Some, length};
-ghost use Rattle.dc_protocol.specs.Net.{Stream as stream_record};
+ghost use Rattle.dc_spec.specs.Entries.{Stream as stream_record};
 ghost use Rattle.dc_formats.specs.StreamFile.{IsStream, stream_text};
 ghost use Rattle.dc_field.specs.Answers.{Answers};
 ghost use Rattle.dc_text.specs.Lines.{told_line as line_told};

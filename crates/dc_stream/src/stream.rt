@@ -4,10 +4,15 @@ ghost use Rattle.std.specs.Prelude.{◌≡◌, ◌<◌, ◌≤◌, [], ◌∷◌
 ghost use Rattle.dc_formats.specs.StreamFile.{IsStream};
 ghost use Rattle.dc_formats.specs.TextFile.{AreBytes};
 
-use crate::lists::{Longs, Shorts, copy_of};
-use dc_field::{Bytes, NoMemory, Value};
+use dc_field::{Bytes, Items, NoMemory, Value};
 use std::alloc::Global;
 use std::marker::Model;
+
+/// Values.
+pub type Shorts = Items<Value>;
+
+/// Messages.
+pub type Longs = Items<Bytes>;
 
 /// The stream of a station.
 #[derive(Debug, Drop)]
@@ -21,7 +26,7 @@ pub struct Stream {
 }
 
 impl Model for Stream {
-    ghost use Rattle.dc_protocol.specs.Net.{Stream as stream_record};
+    ghost use Rattle.dc_spec.specs.Entries.{Stream as stream_record};
     ghost use Rattle.dc_formats.specs.StreamFile.{IsStream};
 
     ghost Value = { stream_record };
@@ -108,8 +113,8 @@ impl Stream {
         ensures { IfOk result (λ s. s ≡ self.now) }
     {
         let shorts = self.shorts.copy(alloc)?;
-        let longs = self.longs.copy(alloc)?;
-        let coins = copy_of(alloc, &self.coins)?;
+        let longs = self.longs.copy_each(alloc)?;
+        let coins = self.coins.copy(alloc)?;
         Ok(Stream {
             shorts,
             longs,

@@ -1,7 +1,7 @@
 use Rattle.std.proofs.Common.{◌-◌, ◌/◌, ◌%◌, ◌^◌, length-set, ◌∙◌, arith, rules}
 use Rattle.std.proofs.lemmas.List.Edits.{fill_by_more}
 use Rattle.std.proofs.lemmas.List.FromFn.{fill_by_all}
-use Rattle.dc_protocol.specs.Values.{fifteen}
+use Rattle.dc_spec.specs.Values.{fifteen}
 use Rattle.dc_field.proofs.value.digits.Goals as goal
 use Rattle.dc_field.proofs.Digits.{bytes_shift}
 

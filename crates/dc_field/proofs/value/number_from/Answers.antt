@@ -1,6 +1,6 @@
 use Rattle.std.proofs.Common.{◌^◌, ap, ◌∙◌, arith}
 use Rattle.std.proofs.lemmas.List.{take_all}
-use Rattle.dc_protocol.specs.Values.{number_of}
+use Rattle.dc_spec.specs.Values.{number_of}
 use Rattle.dc_field.proofs.Digits.{number_of-below, number_of-fits, number_of-more}
 use Rattle.dc_field.proofs.value.number_from.Goals as goal
 

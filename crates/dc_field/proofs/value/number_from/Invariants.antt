@@ -1,5 +1,5 @@
 use Rattle.std.proofs.Common.{◌≡◌, take}
-use Rattle.dc_protocol.specs.Values.{number_of}
+use Rattle.dc_spec.specs.Values.{number_of}
 use Rattle.dc_field.proofs.value.number_from.Given as goal
 
 -- the number so far is that of the bytes so far

@@ -1,5 +1,5 @@
 use Rattle.std.proofs.Common.{ℕ, ◌+◌, ◌<◌, get_or}
-use Rattle.dc_protocol.specs.Net.{Pair}
+use Rattle.dc_spec.specs.Pads.{Pair}
 use Rattle.dc_formats.specs.KeyFile.{IsPair, IsBefore}
 use Rattle.dc_keys.proofs.key_file.are_keys.Given as goal
 

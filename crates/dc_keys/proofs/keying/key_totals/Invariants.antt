@@ -1,6 +1,6 @@
 use Rattle.std.proofs.Common.{◌≡◌, ℕ, ◌+◌, ◌-◌, ◌*◌, ◌<◌, ◌≤◌, length, take, get_or, sum_by}
 use Rattle.std.specs.List.{range_with_len}
-use Rattle.dc_protocol.specs.PairKeys.{symbols}
+use Rattle.dc_key_rules.specs.PairKeys.{symbols}
 use Rattle.dc_keys.proofs.keying.key_totals.Given as goal
 
 -- each total is the first pad and the products with the symbols of the words so far, which are sixteen each

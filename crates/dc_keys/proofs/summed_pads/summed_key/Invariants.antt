@@ -1,5 +1,5 @@
 use Rattle.std.proofs.Common.{◌≡◌, take}
-use Rattle.dc_protocol.specs.PairKeys.{key_sum}
+use Rattle.dc_key_rules.specs.PairKeys.{key_sum}
 use Rattle.dc_keys.proofs.summed_pads.summed_key.Given as goal
 
 -- the sum of the keys so far

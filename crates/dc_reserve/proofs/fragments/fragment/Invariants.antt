@@ -1,5 +1,5 @@
 use Rattle.std.proofs.Common.{◌≡◌, ℕ, ◌+◌, ◌-◌, ◌*◌, ◌<◌, length, get_or}
-use Rattle.dc_protocol.specs.Bursts.{burst_bytes}
+use Rattle.dc_station_rules.specs.Bursts.{burst_bytes}
 use Rattle.dc_reserve.proofs.fragments.fragment.Given as goal
 
 -- symbol 0 is the count, and the symbols so far are bytes of the burst

@@ -1,6 +1,6 @@
 use Rattle.std.proofs.Common.{◌≡◌, ℕ, ◌<◌, List, ◌++◌, length, get_or, None, sym, ap, ◌∙◌, arith, rules}
 use Rattle.dc_spec.specs.Bytes.{short_at}
-use Rattle.dc_protocol.specs.Values.{word_count, word_limbs}
+use Rattle.dc_spec.specs.Values.{word_count, word_limbs}
 use Rattle.dc_reserve.specs.Phases.{own_fault}
 use Rattle.dc_reserve.proofs.StepLemmas.{own_none, limbs_small, after_word, message_fits}
 use Rattle.dc_reserve.proofs.judge.judge.Goals as goal

@@ -1,7 +1,7 @@
 use Rattle.std.proofs.Common.{◌≡◌, ℕ, ◌+◌, List, [], ◌∷◌, ◌++◌, map, sym, ap, ◌∙◌, arith, append_assoc, length-append, rules}
 use Rattle.std.specs.List.{range_with_len}
 use Rattle.std.proofs.lemmas.List.FromFn.{map-range_with_len_more}
-use Rattle.dc_protocol.specs.Values.{fifteen}
+use Rattle.dc_spec.specs.Values.{fifteen}
 use Rattle.dc_reserve.proofs.judge.push_limbs.Goals as goal
 
 -- one more item at the end

@@ -1,4 +1,4 @@
-use Rattle.dc_protocol.proofs.MessageBursts.{fragments-give}
+use Rattle.dc_station_rules.proofs.MessageBursts.{fragments-give}
 use Rattle.dc_reserve.proofs.laws.fragments_give_their_message.Goals as goal
 
 pub returns : goal.returns

@@ -1,7 +1,7 @@
 use Rattle.std.proofs.Common.{◌≡◌, ℕ, List, ◌∙◌, ap, arith, map}
 use Rattle.std.proofs.lemmas.Grind.{common_steps}
 use Rattle.dc_spec.specs.Words.{zero_word}
-use Rattle.dc_protocol.specs.Graphs.{is_among}
+use Rattle.dc_spec.specs.Lists.{is_among}
 use Rattle.dc_script.proofs.Members.{zero_words_more, members_kept}
 use Rattle.dc_script.proofs.quiet_script.zero_words.Goals as goal
 

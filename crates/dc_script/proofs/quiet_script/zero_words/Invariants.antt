@@ -1,7 +1,7 @@
 use Rattle.std.proofs.Common.{◌≡◌, map}
 use Rattle.std.specs.List.{filter, range_with_len}
 use Rattle.dc_spec.specs.Words.{zero_word}
-use Rattle.dc_protocol.specs.Graphs.{is_among}
+use Rattle.dc_spec.specs.Lists.{is_among}
 use Rattle.dc_script.proofs.quiet_script.zero_words.Given as goal
 
 -- the members so far say the zero word

@@ -1,6 +1,6 @@
 use Rattle.std.proofs.Common.{◌≡◌, Bool, true, false, not, List, ℕ, Err, refl, sym, subst, codes}
 use Rattle.std.specs.Prelude.{bytes_eq}
-use Rattle.dc_protocol.specs.Net.{Turn}
+use Rattle.dc_spec.specs.Scripts.{Turn}
 use Rattle.dc_field.specs.Answers.{Answers}
 use Rattle.dc_field.specs.declared.refusal.Refusal.{Refusal}
 use Rattle.dc_script.specs.declared.fault.ScriptFault.{ScriptFault}

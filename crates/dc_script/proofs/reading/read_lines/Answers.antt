@@ -1,5 +1,5 @@
 use Rattle.std.proofs.Common.{ℕ, List, ◌∙◌, sym, subst}
-use Rattle.dc_protocol.specs.Net.{Turn}
+use Rattle.dc_spec.specs.Scripts.{Turn}
 use Rattle.dc_script.specs.TurnReading.{with_text}
 use Rattle.dc_script.proofs.LinesLeft.{LinesLeft, all_left, one_less, stops, went_so}
 use Rattle.dc_script.proofs.reading.read_lines.Goals as goal

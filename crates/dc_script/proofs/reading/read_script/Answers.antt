@@ -1,5 +1,5 @@
 use Rattle.std.proofs.Common.{List, Result, subst}
-use Rattle.dc_protocol.specs.Net.{Turn}
+use Rattle.dc_spec.specs.Scripts.{Turn}
 use Rattle.dc_field.specs.Answers.{Answers}
 use Rattle.dc_script.specs.declared.fault.ScriptFault.{ScriptFault}
 use Rattle.dc_script.proofs.SameReading.{same_reading}

@@ -1,5 +1,5 @@
 use Rattle.std.proofs.Common.{◌+◌, [], ◌∷◌, ◌++◌, map, take, ap, sym, ◌∙◌}
-use Rattle.dc_protocol.specs.Stations.{leaf_entry}
+use Rattle.dc_station_rules.specs.Stations.{leaf_entry}
 use Rattle.dc_station.proofs.LogLemmas.{entries_more, fits_some}
 use Rattle.dc_station.proofs.receiver.put_leaves.Goals as goal
 

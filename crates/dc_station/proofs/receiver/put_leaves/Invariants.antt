@@ -1,5 +1,5 @@
 use Rattle.std.proofs.Common.{◌≡◌, ◌++◌, map, take}
-use Rattle.dc_protocol.specs.Stations.{leaf_entry}
+use Rattle.dc_station_rules.specs.Stations.{leaf_entry}
 use Rattle.dc_station.specs.Logs.{Fits}
 use Rattle.dc_station.proofs.receiver.put_leaves.Given as goal
 

@@ -1,5 +1,5 @@
 use Rattle.std.proofs.Common.{sym, ◌∙◌}
-use Rattle.dc_protocol.specs.Stations.{is_leaf_of}
+use Rattle.dc_station_rules.specs.Stations.{is_leaf_of}
 use Rattle.dc_station.proofs.SendingLemmas.{any_at, none_more}
 use Rattle.dc_station.proofs.sender.has_leaf_of.Goals as goal
 

@@ -1,6 +1,6 @@
 use Rattle.std.proofs.Common.{◌≡◌, false, take}
 use Rattle.std.specs.List.{list_any}
-use Rattle.dc_protocol.specs.Stations.{is_leaf_of}
+use Rattle.dc_station_rules.specs.Stations.{is_leaf_of}
 use Rattle.dc_station.proofs.sender.has_leaf_of.Given as goal
 
 -- none of the leaves so far is one of the value

@@ -1,5 +1,5 @@
 use Rattle.std.proofs.Common.{sym, ap, ◌∙◌, rules}
-use Rattle.dc_protocol.specs.Epochs.{for_at_most}
+use Rattle.dc_station_rules.specs.Epochs.{for_at_most}
 use Rattle.dc_average.proofs.TakeLemmas.{asked_by}
 use Rattle.dc_average.proofs.StackLemmas.{top_some}
 use Rattle.dc_average.proofs.epoch.Epoch.ask.Goals as goal

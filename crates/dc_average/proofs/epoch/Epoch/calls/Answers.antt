@@ -1,5 +1,5 @@
 use Rattle.std.proofs.Common.{sym, ap, ◌∙◌, Some, rules}
-use Rattle.dc_protocol.specs.Epochs.{is_called}
+use Rattle.dc_station_rules.specs.Epochs.{is_called}
 use Rattle.dc_average.proofs.TakeLemmas.{called_by}
 use Rattle.dc_average.proofs.epoch.Epoch.calls.Goals as goal
 

@@ -1,5 +1,5 @@
 use Rattle.std.proofs.Common.{Some, None, ap, ◌∙◌, arith, rules}
-use Rattle.dc_protocol.specs.Groups.{group_of}
+use Rattle.dc_spec.specs.Groups.{group_of}
 use Rattle.dc_field.proofs.GroupLemmas.{judged-group_of, limbs_within}
 use Rattle.dc_field.proofs.group.Group.of_word.Goals as goal
 

@@ -1,5 +1,5 @@
 use Rattle.std.proofs.Common.{refl}
-use Rattle.dc_protocol.proofs.MessageBursts.{none_go_on}
+use Rattle.dc_station_rules.proofs.MessageBursts.{none_go_on}
 use Rattle.dc_reserve.proofs.burst.Burst.start.Goals as goal
 
 pub returns-clause-stands : goal.returns-clause-stands

@@ -1,6 +1,6 @@
 use Rattle.std.proofs.Common.{◌≡◌, List, [], ◌∷◌, ◌++◌, length, ◌∙◌, ap, arith, length-append}
 use Rattle.std.proofs.lemmas.List.Elements.{All-nil, All-cons, All-append}
-use Rattle.dc_protocol.specs.Net.{Turn}
+use Rattle.dc_spec.specs.Scripts.{Turn}
 use Rattle.dc_formats.specs.ScriptFile.{IsTurn}
 use Rattle.dc_script.proofs.script.Script.with_round.Goals as goal
 

@@ -1,5 +1,5 @@
 use Rattle.std.proofs.Common.{rules, arith, ◌+◌, ◌*◌, ◌<◌, ◌≤◌, ◌∷◌, ◌++◌, [], length, sym, ap, ◌∙◌, subst, refl}
-use Rattle.dc_protocol.specs.Net.{bytes_in}
+use Rattle.dc_spec.specs.Entries.{bytes_in}
 use Rattle.dc_station.specs.Logs.{Kept, Fits, entry_as, entries_of}
 use Rattle.dc_station.proofs.RowLemmas.{fits-push, entries-push, laid-push}
 use Rattle.dc_station.proofs.log.Log.put.Goals as goal

@@ -1,6 +1,6 @@
 use Rattle.std.proofs.Common.{◌≡◌, ℕ, ◌≤◌, List, [], ◌∷◌, ◌++◌, length, All, ◌∙◌, ap, subst, arith, length-append}
 use Rattle.std.proofs.lemmas.List.Elements.{All-nil, All-cons, All-append}
-use Rattle.dc_protocol.specs.Net.{Stream}
+use Rattle.dc_spec.specs.Entries.{Stream}
 use Rattle.dc_formats.specs.TextFile.{AreBytes}
 use Rattle.dc_formats.specs.StreamFile.{IsMessage}
 use Rattle.dc_stream.proofs.stream.Stream.with_long.Goals as goal

@@ -1,0 +1,9 @@
+pub mod OutsideCases
+pub mod WorkedFiles
+pub mod WithinLimits
+pub mod WorkedNetRows
+pub mod WorkedRuns
+pub mod WorkedSessions
+pub mod WorkedStations
+pub mod WorkedSteerings
+pub mod WorkedTwins

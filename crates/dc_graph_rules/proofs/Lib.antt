@@ -1,0 +1,4 @@
+pub mod GraphLemmas
+pub mod ForestLemmas
+pub mod DistanceLemmas
+pub mod ParentLemmas

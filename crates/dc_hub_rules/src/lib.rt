@@ -1,0 +1,6 @@
+//! The hub as definitions: which arrivals it accepts and what it answers.
+#![tactic(auto)]
+
+mod laws;
+
+pub use laws::broadcasts_agree;

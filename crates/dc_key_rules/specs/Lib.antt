@@ -1,0 +1,2 @@
+pub mod PairKeys
+pub mod Laws

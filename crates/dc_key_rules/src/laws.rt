@@ -1,0 +1,8 @@
+//! The law of keys: functions that do nothing, whose contracts are the laws.
+
+ghost use Rattle.dc_key_rules.specs.Laws.{KeysCancel};
+
+/// The keys of stations that received the same words add up to zero.
+pub fn keys_cancel()
+    ensures { KeysCancel }
+{}

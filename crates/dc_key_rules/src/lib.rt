@@ -1,0 +1,6 @@
+//! History-bound keys as definitions.
+#![tactic(auto)]
+
+mod laws;
+
+pub use laws::keys_cancel;

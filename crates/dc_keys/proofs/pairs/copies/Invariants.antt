@@ -1,6 +1,0 @@
-use Rattle.std.proofs.Common.{◌≡◌, take}
-use Rattle.dc_keys.proofs.pairs.copies.Given as goal
-
--- the pairs so far
-abbrev pub invariant-loop-pair : goal.invariant-loop-pair
-invariant-loop-pair l = l.items.items ≡ take l.pair-index l.pairs

@@ -1,0 +1,4 @@
+pub mod Admitting
+pub mod RunLemmas
+pub mod SteeringLemmas
+pub mod OneSteering

@@ -1,0 +1,113 @@
+-- The run of a net: round after round the words of all stations, their sum, and what each station receives.
+use Rattle.std.specs.Prelude.{ℕ, zero, suc, ◌≡◌, ◌==◌, not, if◌then◌else◌, List, [], ◌∷◌, ◌++◌, length, map, filter, find, flat_map, slice_index_or, None, unwrap_or, IsTrue, All, Bool}
+use Rattle.std.specs.List.{range_with_len, list_all}
+use Rattle.std.specs.Str.{bytes_eq}
+use Rattle.std.specs.Option.{option_map_or}
+use Rattle.dc_spec.specs.Words.{zero_word, word_add, word_sum}
+use Rattle.dc_spec.specs.Entries.{Stream}
+use Rattle.dc_spec.specs.Scripts.{Delivery, all_sum, each, Turn}
+use Rattle.dc_spec.specs.Pads.{Pair}
+use Rattle.dc_spec.specs.Net.{Net, Run}
+use Rattle.dc_station_rules.specs.Stations.{plain_word, log_of, sent_of, pending_counts}
+use Rattle.dc_spec.specs.Lists.{is_among}
+use Rattle.dc_key_rules.specs.PairKeys.{key_part}
+
+-- a round that was played: the words of all stations, their sum, and the word that each honest station received, all by station (what stands at a member is not used)
+pub record Round : Type 0 where
+  pub words : List (List ℕ)
+  pub sum : List ℕ
+  pub received : List (List ℕ)
+
+-- the word of a list by station, the zero word past its end
+abbrev pub word_at : List (List ℕ) → ℕ → List ℕ
+word_at words i = slice_index_or words i zero_word
+
+-- the word that a list of stations and words has for a station
+abbrev pub listed_word : List (ℕ × List ℕ) → ℕ → List ℕ
+listed_word listed i = option_map_or (λ entry. entry.1) (find (λ entry. entry.0 == i) listed) zero_word
+
+-- the stream of a station, one that has nothing to say where the net has none
+abbrev pub stream_of : Net → ℕ → Stream
+stream_of net i = unwrap_or (slice_index_or net.streams i None) (record { shorts = []; longs = []; coins = [] })
+
+-- what the script says of a round, nothing past its end
+abbrev pub turn_of : Net → ℕ → Turn
+turn_of net t = slice_index_or net.script t (record { says = []; delivery = all_sum })
+
+-- the honest stations of a net, in rising order
+abbrev pub honest_stations : Net → List ℕ
+honest_stations net = filter (λ i. not (is_among net.coalition i)) (range_with_len 0 net.stations)
+
+-- the words that a station received in the rounds that were played
+abbrev pub history : List Round → ℕ → List (List ℕ)
+history rounds i = map (λ round. word_at round.received i) rounds
+
+-- what a station hears of a round: the sum, or the word that is dealt to it
+abbrev pub heard : Delivery → List ℕ → ℕ → List ℕ
+heard all_sum sum i = sum
+heard (each dealt) sum i = listed_word dealt i
+
+-- the word of an honest station after the words that it received: its plain word and the keys of its pairs
+abbrev pub station_word : Stream → List Pair → ℕ → List (List ℕ) → List ℕ
+station_word stream pairs i received = word_add (plain_word stream received) (key_part pairs i received)
+
+-- the word of a station in the round after those played: a member's is the script's
+abbrev pub next_word : Net → List Round → ℕ → List ℕ
+next_word net played i = if is_among net.coalition i then listed_word (turn_of net (length played)).says i else station_word (stream_of net i) net.keys.pairs i (history played i)
+
+-- the round after those played
+abbrev pub next_round : Net → List Round → Round
+next_round net played =
+    let words = map (next_word net played) (range_with_len 0 net.stations) in
+    let sum = word_sum words in
+    record { words = words; sum = sum; received = map (heard (turn_of net (length played)).delivery sum) (range_with_len 0 net.stations) }
+
+-- the first so many rounds of a net
+unfoldable pub rounds_of : Net → ℕ → List Round
+rounds_of net zero = []
+rounds_of net (suc t) = let played = rounds_of net t in played ++ next_round net played ∷ []
+
+-- all rounds of a net
+abbrev pub all_rounds : Net → List Round
+all_rounds net = rounds_of net net.words
+
+-- what the rounds of a net record
+abbrev pub recorded : Net → List Round → Run
+recorded net played =
+    let stations = honest_stations net in
+    record {
+      words = flat_map (λ round. round.words) played;
+      sums = map (λ round. round.sum) played;
+      delivered = flat_map (λ round. map (word_at round.received) stations) played;
+      logs = map (λ i. log_of (history played i)) stations;
+      sents = map (λ i. sent_of (stream_of net i) (history played i)) stations;
+      pending = map (λ i. pending_counts (stream_of net i) (history played i)) stations;
+    }
+
+-- the run of a net
+abbrev pub run_of : Net → Run
+run_of net = recorded net (all_rounds net)
+
+-- an honest station of a net
+abbrev pub IsHonest : Net → ℕ → Type 0
+IsHonest net i = IsTrue (is_among (honest_stations net) i)
+
+-- all honest stations received one and the same word in a round
+abbrev pub IsAlikeIn : Net → Round → Type 0
+IsAlikeIn net round = (i j : ℕ) → IsHonest net i → IsHonest net j → word_at round.received i ≡ word_at round.received j
+
+-- they did in each round
+abbrev pub IsAlike : Net → Type 0
+IsAlike net = All (IsAlikeIn net) (all_rounds net)
+
+-- whether all honest stations received one and the same word in a round
+abbrev pub is_alike_in : Net → Round → Bool
+is_alike_in net round = list_all (λ i. list_all (λ j. bytes_eq (word_at round.received i) (word_at round.received j)) (honest_stations net)) (honest_stations net)
+
+-- whether they did in each round
+abbrev pub is_alike : Net → Bool
+is_alike net = list_all (is_alike_in net) (all_rounds net)
+
+-- each delivery of the script is the sum
+abbrev pub DeliversSums : Net → Type 0
+DeliversSums net = All (λ turn. turn.delivery ≡ all_sum) net.script

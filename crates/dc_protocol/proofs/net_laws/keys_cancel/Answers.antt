@@ -1,6 +1,0 @@
--- Each pair counts once with plus, at its smaller end, and once with minus, at its larger end.
-use Rattle.dc_protocol.proofs.KeyLemmas.{keys-cancel}
-use Rattle.dc_protocol.proofs.net_laws.keys_cancel.Goals as goal
-
-pub returns : goal.returns
-returns c = keys-cancel

@@ -1,6 +1,0 @@
--- A search finds the first station that passes its test.
-use Rattle.dc_protocol.proofs.ParentLemmas.{parents-least}
-use Rattle.dc_protocol.proofs.net_laws.parents_are_least_nearer.Goals as goal
-
-pub returns : goal.returns
-returns c = parents-least

@@ -1,6 +1,0 @@
--- A part is listed in rising order.
-use Rattle.dc_protocol.proofs.DistanceLemmas.{root-least}
-use Rattle.dc_protocol.proofs.net_laws.root_is_least.Goals as goal
-
-pub returns : goal.returns
-returns c = root-least

@@ -1,6 +1,0 @@
--- Each honest station hears the sum of each round.
-use Rattle.dc_protocol.proofs.RunLemmas.{sums-alike}
-use Rattle.dc_protocol.proofs.net_laws.sums_are_alike.Goals as goal
-
-pub returns : goal.returns
-returns c = sums-alike

@@ -1,6 +1,0 @@
--- The sum below a station splits by the chains of parents that meet it.
-use Rattle.dc_protocol.proofs.ForestLemmas.{sums-meet_demands}
-use Rattle.dc_protocol.proofs.net_laws.sums_meet_demands.Goals as goal
-
-pub returns : goal.returns
-returns c = sums-meet_demands

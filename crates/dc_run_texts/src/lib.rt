@@ -1,0 +1,2 @@
+//! The texts of runs as functions: view, logs, shifts, steering, summary of a trial.
+#![tactic(auto)]

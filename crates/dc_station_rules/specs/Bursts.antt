@@ -1,0 +1,109 @@
+-- Bursts: the words in which one station sends one message, and how received words are judged as a burst.
+use Rattle.std.specs.Prelude.{◌≡◌, ℕ, zero, suc, ◌+◌, ◌-◌, ◌*◌, Bool, List, [], ◌∷◌, ◌++◌, length, map, take, drop, replicate, slice_index, Option, Some, None, option_map, if◌then◌else◌, true, false, nat_lt, nat_le, not, ◌==◌, ◌&&◌}
+use Rattle.std.specs.List.{range_with_len, find, filter_map, flat_map, slice_index_or}
+use Rattle.std.specs.Int.{w16, to_be_bytes, div_ceil}
+use Rattle.std.specs.Option.{option_or}
+use Rattle.dc_spec.specs.Bytes.{short_at}
+use Rattle.dc_spec.specs.Values.{word_count, word_limbs}
+use Rattle.dc_spec.specs.Entries.{IsMessage}
+
+-- how many fragments a message of so many bytes has: fifteen bytes each, two of them for the length
+abbrev pub fragment_count : ℕ → ℕ
+fragment_count size = div_ceil (size + 2) 15
+
+-- the bytes that the fragments carry: two length bytes, the message, zeros up to a multiple of fifteen
+abbrev pub burst_bytes : List ℕ → List ℕ
+burst_bytes message = to_be_bytes w16 (length message) ++ message ++ replicate (15 * fragment_count (length message) - (length message + 2)) 0
+
+-- fragment i: how many fragments are left, this one included, and fifteen of the bytes
+unfoldable pub fragment : List ℕ → ℕ → List ℕ
+fragment message i = (fragment_count (length message) - i) ∷ take 15 (drop (15 * i) (burst_bytes message))
+
+-- all fragments in order
+unfoldable pub fragments : List ℕ → List (List ℕ)
+fragments message = map (fragment message) (range_with_len 0 (fragment_count (length message)))
+
+-- the message burst of a message: its fragments
+pub record IsMessageBurst (words : List (List ℕ)) (message : List ℕ) : Type 0 where
+  pub is_message : IsMessage message
+  pub are_fragments : words ≡ fragments message
+
+-- why a word breaks a burst: the count seen; a limb (1 to 15) and what was seen; the length told and the count beside it; the place of the first byte after the message that is not 0
+pub data BurstFault : Type 0 where
+  burst_count : ℕ → BurstFault
+  burst_limb : ℕ → ℕ → BurstFault
+  burst_length : ℕ → ℕ → BurstFault
+  burst_padding : ℕ → BurstFault
+
+-- word i of a list
+abbrev pub word_at : List (List ℕ) → ℕ → List ℕ
+word_at words i = slice_index_or words i []
+
+-- the bytes that words carry
+abbrev pub carried : List (List ℕ) → List ℕ
+carried words = flat_map word_limbs words
+
+-- the length that the first word tells
+abbrev pub told_length : List (List ℕ) → ℕ
+told_length words = short_at (word_at words 0) 1
+
+-- whether a count stands where it has to: 1 to 256 in the first word, and one less than in the word before in each later one
+abbrev pub count_fits : List (List ℕ) → ℕ → Bool
+count_fits words zero = nat_le 1 (word_count (word_at words 0)) && nat_le (word_count (word_at words 0)) 256
+count_fits words (suc i) = word_count (word_at words (suc i)) + 1 == word_count (word_at words i)
+
+-- word i has a count that does not fit
+abbrev pub count_fault : List (List ℕ) → ℕ → Option BurstFault
+count_fault words i = if count_fits words i then None else Some (burst_count (word_count (word_at words i)))
+
+-- the first limb of a word that is above 255
+abbrev pub limb_fault : List ℕ → Option BurstFault
+limb_fault word = option_map (λ l. burst_limb l (slice_index word l)) (find (λ l. nat_lt 255 (slice_index word l)) (range_with_len 1 15))
+
+-- the first word tells a length that needs another count
+abbrev pub length_fault : List (List ℕ) → ℕ → Option BurstFault
+length_fault words zero = if fragment_count (told_length words) == word_count (word_at words 0) then None else Some (burst_length (told_length words) (word_count (word_at words 0)))
+length_fault words (suc i) = None
+
+-- the last word, whose count is 1, has a byte after the message that is not 0
+abbrev pub padding_fault : List (List ℕ) → ℕ → Option BurstFault
+padding_fault words i = if word_count (word_at words i) == 1 then option_map burst_padding (find (λ at. not (slice_index (carried (take (i + 1) words)) at == 0)) (range_with_len (told_length words + 2) (15 * (i + 1) - (told_length words + 2)))) else None
+
+-- the first check that word i breaks
+unfoldable pub fault_at : List (List ℕ) → ℕ → Option BurstFault
+fault_at words i = option_or (count_fault words i) (option_or (limb_fault (word_at words i)) (option_or (length_fault words i) (padding_fault words i)))
+
+-- all words that break a check, in order, each by the first that it breaks
+unfoldable pub burst_faults : List (List ℕ) → List BurstFault
+burst_faults words = filter_map (fault_at words) (range_with_len 0 (length words))
+
+-- what words are as a burst: it goes on, it gave a message, or it is void
+pub data Burst : Type 0 where
+  goes_on : Burst
+  gave : List ℕ → Burst
+  void_burst : BurstFault → Burst
+
+-- the message that the words of a whole burst carry
+abbrev pub carried_message : List (List ℕ) → List ℕ
+carried_message words = take (told_length words) (drop 2 (carried words))
+
+-- words with these faults: the first fault makes them void, and with none they are whole once the last count is 1
+abbrev pub judged_burst : List (List ℕ) → List BurstFault → Burst
+judged_burst words (fault ∷ faults) = void_burst fault
+judged_burst words [] = if word_count (word_at words (length words - 1)) == 1 then gave (carried_message words) else goes_on
+
+-- words judged as a burst
+unfoldable pub burst_of : List (List ℕ) → Burst
+burst_of words = judged_burst words (burst_faults words)
+
+-- whether a burst has ended
+abbrev pub has_ended : Burst → Bool
+has_ended goes_on = false
+has_ended (gave message) = true
+has_ended (void_burst fault) = true
+
+-- the message that a burst gave, if it gave one
+abbrev pub message_of : Burst → Option (List ℕ)
+message_of goes_on = None
+message_of (gave message) = Some message
+message_of (void_burst fault) = None
