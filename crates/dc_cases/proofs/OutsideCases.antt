@@ -5,11 +5,11 @@ use Rattle.dc_spec.specs.Words.{word_of}
 use Rattle.dc_spec.specs.Entries.{short, long}
 use Rattle.dc_spec.specs.Groups.{group_count, split_limb, group_of, total, mean, minus, equal_value}
 use Rattle.dc_station_rules.specs.Bursts.{goes_on, gave, void_burst, burst_padding, burst_of, fragments}
-use Rattle.dc_station_rules.specs.Epochs.{void_epoch, no_part, for_at_most, for_nothing, epoch_of, leaves_at, asked}
+use Rattle.dc_station_rules.specs.Epochs.{void_epoch, no_part, for_at_most, for_nothing, epoch_of, leaves_at, request_after}
 use Rattle.dc_key_rules.specs.PairKeys.{key_word, symbols}
 use Rattle.dc_graph_rules.specs.Graphs.{reached, part, is_joined}
 use Rattle.dc_graph_rules.specs.Forests.{spreads, chain, root, parents, below_sums}
-use Rattle.dc_hub_rules.specs.Hubs.{answers, round_start, waiting, complete, old, ahead}
+use Rattle.dc_hub_rules.specs.Hubs.{replies, round_start, waiting, complete, old, ahead}
 use Rattle.dc_station_rules.specs.Stations.{log_of, sent_of, pending_counts, plain_word}
 use Rattle.dc_station_rules.proofs.Computing.{computing}
 
@@ -84,7 +84,7 @@ leaves_at_the_root : leaves_at ([]) (3 ∷ 255 ∷ 255 ∷ 255 ∷ 255 ∷ 255 �
 unfolding computing
 leaves_at_the_root = refl
 
-asked_after_the_root : asked (epoch_of ((3 ∷ 255 ∷ 255 ∷ 255 ∷ 255 ∷ 255 ∷ 255 ∷ 255 ∷ 255 ∷ 255 ∷ 255 ∷ 255 ∷ 255 ∷ 255 ∷ 257 ∷ 255 ∷ []) ∷ [])) ≡ (for_at_most 443075998594971957634602353426781695)
+asked_after_the_root : request_after (epoch_of ((3 ∷ 255 ∷ 255 ∷ 255 ∷ 255 ∷ 255 ∷ 255 ∷ 255 ∷ 255 ∷ 255 ∷ 255 ∷ 255 ∷ 255 ∷ 255 ∷ 257 ∷ 255 ∷ []) ∷ [])) ≡ (for_at_most 443075998594971957634602353426781695)
 unfolding computing
 asked_after_the_root = refl
 
@@ -92,7 +92,7 @@ leaves_at_the_second_word : leaves_at ((3 ∷ 255 ∷ 255 ∷ 255 ∷ 255 ∷ 25
 unfolding computing
 leaves_at_the_second_word = refl
 
-asked_after_the_second_word : asked (epoch_of ((3 ∷ 255 ∷ 255 ∷ 255 ∷ 255 ∷ 255 ∷ 255 ∷ 255 ∷ 255 ∷ 255 ∷ 255 ∷ 255 ∷ 255 ∷ 255 ∷ 257 ∷ 255 ∷ []) ∷ (2 ∷ 0 ∷ 0 ∷ 0 ∷ 0 ∷ 0 ∷ 0 ∷ 0 ∷ 0 ∷ 0 ∷ 0 ∷ 0 ∷ 0 ∷ 0 ∷ 2 ∷ 0 ∷ []) ∷ [])) ≡ (for_at_most 256)
+asked_after_the_second_word : request_after (epoch_of ((3 ∷ 255 ∷ 255 ∷ 255 ∷ 255 ∷ 255 ∷ 255 ∷ 255 ∷ 255 ∷ 255 ∷ 255 ∷ 255 ∷ 255 ∷ 255 ∷ 257 ∷ 255 ∷ []) ∷ (2 ∷ 0 ∷ 0 ∷ 0 ∷ 0 ∷ 0 ∷ 0 ∷ 0 ∷ 0 ∷ 0 ∷ 0 ∷ 0 ∷ 0 ∷ 0 ∷ 2 ∷ 0 ∷ []) ∷ [])) ≡ (for_at_most 256)
 unfolding computing
 asked_after_the_second_word = refl
 
@@ -100,7 +100,7 @@ leaves_at_the_third_word : leaves_at ((3 ∷ 255 ∷ 255 ∷ 255 ∷ 255 ∷ 255
 unfolding computing
 leaves_at_the_third_word = refl
 
-asked_after_the_third_word : asked (epoch_of ((3 ∷ 255 ∷ 255 ∷ 255 ∷ 255 ∷ 255 ∷ 255 ∷ 255 ∷ 255 ∷ 255 ∷ 255 ∷ 255 ∷ 255 ∷ 255 ∷ 257 ∷ 255 ∷ []) ∷ (2 ∷ 0 ∷ 0 ∷ 0 ∷ 0 ∷ 0 ∷ 0 ∷ 0 ∷ 0 ∷ 0 ∷ 0 ∷ 0 ∷ 0 ∷ 0 ∷ 2 ∷ 0 ∷ []) ∷ (2 ∷ 0 ∷ 0 ∷ 0 ∷ 0 ∷ 0 ∷ 0 ∷ 0 ∷ 0 ∷ 0 ∷ 0 ∷ 0 ∷ 0 ∷ 0 ∷ 2 ∷ 0 ∷ []) ∷ [])) ≡ for_nothing
+asked_after_the_third_word : request_after (epoch_of ((3 ∷ 255 ∷ 255 ∷ 255 ∷ 255 ∷ 255 ∷ 255 ∷ 255 ∷ 255 ∷ 255 ∷ 255 ∷ 255 ∷ 255 ∷ 255 ∷ 257 ∷ 255 ∷ []) ∷ (2 ∷ 0 ∷ 0 ∷ 0 ∷ 0 ∷ 0 ∷ 0 ∷ 0 ∷ 0 ∷ 0 ∷ 0 ∷ 0 ∷ 0 ∷ 0 ∷ 2 ∷ 0 ∷ []) ∷ (2 ∷ 0 ∷ 0 ∷ 0 ∷ 0 ∷ 0 ∷ 0 ∷ 0 ∷ 0 ∷ 0 ∷ 0 ∷ 0 ∷ 0 ∷ 0 ∷ 2 ∷ 0 ∷ []) ∷ [])) ≡ for_nothing
 unfolding computing
 asked_after_the_third_word = refl
 
@@ -136,7 +136,7 @@ unfolding word_of reached spreads chain
 sums_below_of_seven = refl
 
 -- a hub of three stations in two rounds
-answers_of_a_hub : answers 3 3 ((record { station = 1; round = 0; word = (2 ∷ 0 ∷ 0 ∷ 0 ∷ 0 ∷ 0 ∷ 0 ∷ 0 ∷ 0 ∷ 0 ∷ 0 ∷ 0 ∷ 0 ∷ 0 ∷ 0 ∷ 5 ∷ []) }) ∷ (record { station = 1; round = 1; word = (1 ∷ 0 ∷ 0 ∷ 0 ∷ 0 ∷ 0 ∷ 0 ∷ 0 ∷ 0 ∷ 0 ∷ 0 ∷ 0 ∷ 0 ∷ 0 ∷ 0 ∷ 1 ∷ []) }) ∷ (record { station = 2; round = 0; word = (1 ∷ 0 ∷ 0 ∷ 0 ∷ 0 ∷ 0 ∷ 0 ∷ 0 ∷ 0 ∷ 0 ∷ 0 ∷ 0 ∷ 0 ∷ 0 ∷ 0 ∷ 0 ∷ []) }) ∷ (record { station = 0; round = 2; word = (1 ∷ 0 ∷ 0 ∷ 0 ∷ 0 ∷ 0 ∷ 0 ∷ 0 ∷ 0 ∷ 0 ∷ 0 ∷ 0 ∷ 0 ∷ 0 ∷ 0 ∷ 3 ∷ []) }) ∷ (record { station = 0; round = 0; word = (2 ∷ 0 ∷ 0 ∷ 0 ∷ 0 ∷ 0 ∷ 0 ∷ 0 ∷ 0 ∷ 0 ∷ 0 ∷ 0 ∷ 0 ∷ 0 ∷ 0 ∷ 0 ∷ []) }) ∷ (record { station = 0; round = 0; word = (0 ∷ 0 ∷ 0 ∷ 0 ∷ 0 ∷ 0 ∷ 0 ∷ 0 ∷ 0 ∷ 0 ∷ 0 ∷ 0 ∷ 0 ∷ 0 ∷ 0 ∷ 5 ∷ []) }) ∷ (record { station = 2; round = 1; word = (2 ∷ 0 ∷ 0 ∷ 0 ∷ 0 ∷ 0 ∷ 0 ∷ 0 ∷ 0 ∷ 0 ∷ 0 ∷ 0 ∷ 0 ∷ 0 ∷ 0 ∷ 3 ∷ []) }) ∷ []) ≡ ((waiting 0) ∷ (ahead 0) ∷ (waiting 0) ∷ (ahead 0) ∷ (complete (5 ∷ 0 ∷ 0 ∷ 0 ∷ 0 ∷ 0 ∷ 0 ∷ 0 ∷ 0 ∷ 0 ∷ 0 ∷ 0 ∷ 0 ∷ 0 ∷ 0 ∷ 5 ∷ [])) ∷ (old 1) ∷ (waiting 0) ∷ [])
+answers_of_a_hub : replies 3 3 ((record { station = 1; round = 0; word = (2 ∷ 0 ∷ 0 ∷ 0 ∷ 0 ∷ 0 ∷ 0 ∷ 0 ∷ 0 ∷ 0 ∷ 0 ∷ 0 ∷ 0 ∷ 0 ∷ 0 ∷ 5 ∷ []) }) ∷ (record { station = 1; round = 1; word = (1 ∷ 0 ∷ 0 ∷ 0 ∷ 0 ∷ 0 ∷ 0 ∷ 0 ∷ 0 ∷ 0 ∷ 0 ∷ 0 ∷ 0 ∷ 0 ∷ 0 ∷ 1 ∷ []) }) ∷ (record { station = 2; round = 0; word = (1 ∷ 0 ∷ 0 ∷ 0 ∷ 0 ∷ 0 ∷ 0 ∷ 0 ∷ 0 ∷ 0 ∷ 0 ∷ 0 ∷ 0 ∷ 0 ∷ 0 ∷ 0 ∷ []) }) ∷ (record { station = 0; round = 2; word = (1 ∷ 0 ∷ 0 ∷ 0 ∷ 0 ∷ 0 ∷ 0 ∷ 0 ∷ 0 ∷ 0 ∷ 0 ∷ 0 ∷ 0 ∷ 0 ∷ 0 ∷ 3 ∷ []) }) ∷ (record { station = 0; round = 0; word = (2 ∷ 0 ∷ 0 ∷ 0 ∷ 0 ∷ 0 ∷ 0 ∷ 0 ∷ 0 ∷ 0 ∷ 0 ∷ 0 ∷ 0 ∷ 0 ∷ 0 ∷ 0 ∷ []) }) ∷ (record { station = 0; round = 0; word = (0 ∷ 0 ∷ 0 ∷ 0 ∷ 0 ∷ 0 ∷ 0 ∷ 0 ∷ 0 ∷ 0 ∷ 0 ∷ 0 ∷ 0 ∷ 0 ∷ 0 ∷ 5 ∷ []) }) ∷ (record { station = 2; round = 1; word = (2 ∷ 0 ∷ 0 ∷ 0 ∷ 0 ∷ 0 ∷ 0 ∷ 0 ∷ 0 ∷ 0 ∷ 0 ∷ 0 ∷ 0 ∷ 0 ∷ 0 ∷ 3 ∷ []) }) ∷ []) ≡ ((waiting 0) ∷ (ahead 0) ∷ (waiting 0) ∷ (ahead 0) ∷ (complete (5 ∷ 0 ∷ 0 ∷ 0 ∷ 0 ∷ 0 ∷ 0 ∷ 0 ∷ 0 ∷ 0 ∷ 0 ∷ 0 ∷ 0 ∷ 0 ∷ 0 ∷ 5 ∷ [])) ∷ (old 1) ∷ (waiting 0) ∷ [])
 unfolding word_of round_start
 answers_of_a_hub = refl
 

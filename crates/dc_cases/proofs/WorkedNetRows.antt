@@ -10,7 +10,7 @@ use Rattle.dc_station_rules.proofs.Computing.{computing}
 use Rattle.dc_graph_rules.specs.Graphs.{reached, key_graph, is_joined}
 use Rattle.dc_graph_rules.specs.Forests.{distance, spreads, chain, parents}
 use Rattle.dc_key_rules.specs.PairKeys.{key_word, symbols}
-use Rattle.dc_hub_rules.specs.Hubs.{Arrival, waiting, complete, no_station, over, old, ahead, repeated, answers, round_start}
+use Rattle.dc_hub_rules.specs.Hubs.{Arrival, waiting, complete, no_station, over, old, ahead, repeated, replies, round_start}
 use Rattle.dc_net_rules.specs.Runs.{rounds_of, run_of, is_alike}
 use Rattle.dc_spec.specs.Symbols.{power_below}
 use Rattle.dc_net_rules.specs.Steerings.{changes_up_to, first_difference, steering_of, steered_net}
@@ -168,12 +168,12 @@ abbrev arrival : ℕ → ℕ → ℕ → Arrival
 arrival i t x = record { station = i; round = t; word = counted 1 x }
 
 -- the hub refuses a second word, a round ahead, a round that is over and a station that there is not
-hub_answers : answers 2 2 (arrival 0 0 3 ∷ arrival 0 0 4 ∷ arrival 1 1 4 ∷ arrival 1 0 5 ∷ arrival 0 0 3 ∷ arrival 2 1 3 ∷ []) ≡ waiting 1 ∷ repeated (counted 1 3) ∷ ahead 0 ∷ complete (counted 2 8) ∷ old 1 ∷ no_station 2 ∷ []
+hub_answers : replies 2 2 (arrival 0 0 3 ∷ arrival 0 0 4 ∷ arrival 1 1 4 ∷ arrival 1 0 5 ∷ arrival 0 0 3 ∷ arrival 2 1 3 ∷ []) ≡ waiting 1 ∷ repeated (counted 1 3) ∷ ahead 0 ∷ complete (counted 2 8) ∷ old 1 ∷ no_station 2 ∷ []
 unfolding word_of round_start
 hub_answers = refl
 
 -- in the other order the same sum comes out, and after the last round every arrival of a station is over
-hub_answers_in_other_order : answers 2 2 (arrival 1 0 5 ∷ arrival 0 0 3 ∷ arrival 0 1 1 ∷ arrival 1 1 2 ∷ arrival 0 1 3 ∷ arrival 2 1 3 ∷ []) ≡ waiting 0 ∷ complete (counted 2 8) ∷ waiting 1 ∷ complete (counted 2 3) ∷ over ∷ no_station 2 ∷ []
+hub_answers_in_other_order : replies 2 2 (arrival 1 0 5 ∷ arrival 0 0 3 ∷ arrival 0 1 1 ∷ arrival 1 1 2 ∷ arrival 0 1 3 ∷ arrival 2 1 3 ∷ []) ≡ waiting 0 ∷ complete (counted 2 8) ∷ waiting 1 ∷ complete (counted 2 3) ∷ over ∷ no_station 2 ∷ []
 unfolding word_of round_start
 hub_answers_in_other_order = refl
 

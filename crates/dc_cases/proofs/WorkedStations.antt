@@ -6,7 +6,7 @@ use Rattle.dc_spec.specs.Entries.{short, long, Stream}
 use Rattle.dc_spec.specs.Values.{value_of}
 use Rattle.dc_spec.specs.Groups.{group_of, group_count, group_limb, split_limb, Group, counted, total, mean, minus, equal_value, split_count}
 use Rattle.dc_station_rules.specs.Bursts.{burst_of, gave}
-use Rattle.dc_station_rules.specs.Epochs.{epoch_of, asked, for_root, for_at_most, for_nothing}
+use Rattle.dc_station_rules.specs.Epochs.{epoch_of, request_after, for_root, for_at_most, for_nothing}
 use Rattle.dc_station_rules.specs.Cycles.{place_of, in_burst}
 use Rattle.dc_station_rules.specs.Stations.{log_of, sent_of, pending_counts, plain_word}
 use Rattle.dc_station_rules.proofs.Computing.{computing}
@@ -137,8 +137,8 @@ larger_part : minus three_of_seven (counted (two_ends 4 7)) ≡ Err (split_count
 unfolding computing
 larger_part = refl
 
--- what is asked for: a root first, then values up to the mean of the current group, and nothing once the epoch is whole or void
-asked_in_epoch : map (λ words. asked (epoch_of words)) ([] ∷ (two_ends 3 7 ∷ []) ∷ (two_ends 3 7 ∷ two_ends 1 1 ∷ []) ∷ (two_ends 3 7 ∷ two_ends 1 1 ∷ two_ends 2 6 ∷ []) ∷ (two_ends 3 7 ∷ zero_word ∷ []) ∷ []) ≡ for_root ∷ for_at_most 2 ∷ for_at_most 3 ∷ for_nothing ∷ for_nothing ∷ []
+-- what is request_after for: a root first, then values up to the mean of the current group, and nothing once the epoch is whole or void
+asked_in_epoch : map (λ words. request_after (epoch_of words)) ([] ∷ (two_ends 3 7 ∷ []) ∷ (two_ends 3 7 ∷ two_ends 1 1 ∷ []) ∷ (two_ends 3 7 ∷ two_ends 1 1 ∷ two_ends 2 6 ∷ []) ∷ (two_ends 3 7 ∷ zero_word ∷ []) ∷ []) ≡ for_root ∷ for_at_most 2 ∷ for_at_most 3 ∷ for_nothing ∷ for_nothing ∷ []
 unfolding computing
 asked_in_epoch = refl
 

@@ -16,7 +16,7 @@ use Rattle.dc_spec.specs.Recorded.{Recorded, IsRecorded, transcript_bytes}
 use Rattle.dc_spec.specs.Pads.{Pair, Keys}
 use Rattle.dc_spec.specs.Entries.{Stream}
 use Rattle.dc_formats.specs.TextFile.{byte_text, hex_text}
-use Rattle.dc_formats.specs.KeyFile.{pair_bytes, keys_bytes, IsPair, IsBefore, AreRising, IsKeys}
+use Rattle.dc_formats.specs.KeyFile.{pair_bytes, keys_bytes, IsPair, IsPairBefore, ArePairsRising, IsKeys}
 use Rattle.dc_spec.specs.Values.{IsValue}
 use Rattle.dc_formats.specs.StreamFile.{short_line, long_line, coin_line, stream_text, IsMessage, IsStream}
 use Rattle.dc_formats.specs.ListFiles.{images_text, AreImages, wanted_text, AreWanted}
@@ -54,7 +54,7 @@ abbrev place_of : Pair → ℕ
 place_of p = p.u * 256 + p.v
 
 -- a later pair has a later place
-place_rises : (n t : ℕ) (p q : Pair) → n ≤ 256 → IsPair n t p → IsPair n t q → IsBefore p q → place_of p < place_of q
+place_rises : (n t : ℕ) (p q : Pair) → n ≤ 256 → IsPair n t p → IsPair n t q → IsPairBefore p q → place_of p < place_of q
 place_rises n t p q small is is' before =
     elim (cases_lt p.u q.u) [
       | inl less ↦ omega arith
@@ -62,7 +62,7 @@ place_rises n t p q small is is' before =
     ]
 
 -- before a pair stand at most as many as its place tells
-place_bounds : (n t : ℕ) (pairs : List Pair) → n ≤ 256 → All (IsPair n t) pairs → AreRising pairs → (d : Pair) (i : ℕ) → i < length pairs → i ≤ place_of (slice_index_or pairs i d)
+place_bounds : (n t : ℕ) (pairs : List Pair) → n ≤ 256 → All (IsPair n t) pairs → ArePairsRising pairs → (d : Pair) (i : ℕ) → i < length pairs → i ≤ place_of (slice_index_or pairs i d)
 place_bounds n t pairs small are rising d zero lt = omega arith
 place_bounds n t pairs small are rising d (suc i) lt =
     let here : i + 1 < length pairs = omega arith in
@@ -71,7 +71,7 @@ place_bounds n t pairs small are rising d (suc i) lt =
     rw (sym (add-one i)) (omega arith)
 
 -- there are at most 65536 pairs
-pair_count : (n t : ℕ) (pairs : List Pair) → n ≤ 256 → All (IsPair n t) pairs → AreRising pairs → length pairs ≤ 65536
+pair_count : (n t : ℕ) (pairs : List Pair) → n ≤ 256 → All (IsPair n t) pairs → ArePairsRising pairs → length pairs ≤ 65536
 pair_count n t [] small are rising = lit≤ tt
 pair_count n t (p ∷ ps) small are rising =
     let last : IsPair n t (slice_index_or (p ∷ ps) (length ps) p) = are (length ps) p (omega arith) in

@@ -27,13 +27,13 @@ pub record IsPair (stations words : ℕ) (p : Pair) : Type 0 where
   pub no_first : slice_index p.b 0 ≡ 0
 
 -- the lesser ends do not fall, and where they are equal the greater ends rise
-pub record IsBefore (p q : Pair) : Type 0 where
+pub record IsPairBefore (p q : Pair) : Type 0 where
   pub lesser : p.u ≤ q.u
   pub greater : p.u ≡ q.u → p.v < q.v
 
 -- each pair is before the next
-abbrev pub AreRising : List Pair → Type 0
-AreRising ps = (i : ℕ) (d : Pair) → i + 1 < length ps → IsBefore (slice_index_or ps i d) (slice_index_or ps (i + 1) d)
+abbrev pub ArePairsRising : List Pair → Type 0
+ArePairsRising ps = (i : ℕ) (d : Pair) → i + 1 < length ps → IsPairBefore (slice_index_or ps i d) (slice_index_or ps (i + 1) d)
 
 -- 1 to 256 stations, 1 to 4096 words, at most 2^26 pads in all, rising pairs
 pub record IsKeys (k : Keys) : Type 0 where
@@ -43,4 +43,4 @@ pub record IsKeys (k : Keys) : Type 0 where
   pub most_words : k.words ≤ 4096
   pub most_symbols : length k.pairs * (32 * k.words) ≤ 2 ^ 26
   pub are_pairs : All (IsPair k.stations k.words) k.pairs
-  pub rising : AreRising k.pairs
+  pub rising : ArePairsRising k.pairs

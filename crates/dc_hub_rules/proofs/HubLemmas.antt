@@ -9,7 +9,7 @@ use Rattle.std.specs.List.{range_with_len, position_from, list_all}
 use Rattle.std.proofs.lemmas.Bool.{and_parts, cases_Bool}
 use Rattle.dc_spec.specs.Words.{word_sum}
 use Rattle.dc_spec.specs.Lists.{is_among}
-use Rattle.dc_hub_rules.specs.Hubs.{Arrival, no_station, over, old, ahead, first_place, places, end_from, round_start, accepted, accepted_sum, is_complete, broadcast, complete_rounds, answer_now, answer, answers_after, is_taken, AreAllTaken}
+use Rattle.dc_hub_rules.specs.Hubs.{Arrival, no_station, over, old, ahead, first_arrival, places, end_from, round_start, accepted, accepted_sum, is_complete, broadcast, complete_rounds, reply_now, reply, replies_after, is_taken, AreAllTaken}
 use Rattle.dc_spec.proofs.Booleans.{or_cases, or_first, or_second}
 
 -- the parts of a Some are equal
@@ -74,7 +74,7 @@ slice_get-push (y ∷ ys) a (suc i) x h = elim (slice_get-push ys a i x h) [
 ]
 
 -- what stands at the place of a station's word for a round
-place_stands : (xs : List Arrival) (from i t k : ℕ) → first_place xs from i t ≡ Some k → (a : Arrival) × (slice_get xs k ≡ Some a) × (a.station ≡ i) × (a.round ≡ t) × (from ≤ k)
+place_stands : (xs : List Arrival) (from i t k : ℕ) → first_arrival xs from i t ≡ Some k → (a : Arrival) × (slice_get xs k ≡ Some a) × (a.station ≡ i) × (a.round ≡ t) × (from ≤ k)
 place_stands xs from i t k h =
     let found = position_stands (λ a. (a.station == i) && (a.round == t)) from (drop from xs) k h in
     let tests = and_parts (found.1.station == i) (found.1.round == t) found.4 in
@@ -82,7 +82,7 @@ place_stands xs from i t k h =
     (found.1, sym (slice_get-drop xs from found.0 k (sym at)) ∙ found.3, eqb-true found.1.station i tests.0, eqb-true found.1.round t tests.1, omega arith)
 
 -- a word that came since then has a place
-place_found : (xs : List Arrival) (from i t q : ℕ) (a : Arrival) → slice_get xs q ≡ Some a → from ≤ q → a.station ≡ i → a.round ≡ t → (k : ℕ) × (first_place xs from i t ≡ Some k)
+place_found : (xs : List Arrival) (from i t q : ℕ) (a : Arrival) → slice_get xs q ≡ Some a → from ≤ q → a.station ≡ i → a.round ≡ t → (k : ℕ) × (first_arrival xs from i t ≡ Some k)
 place_found xs from i t q a at since is_i is_t = position_found (λ b. (b.station == i) && (b.round == t)) from (drop from xs) (q - from) a
     (slice_get-drop xs from (q - from) q (omega arith) ∙ at)
     (both_true (a.station == i) (a.round == t) (eq-eqb a.station i is_i) (eq-eqb a.round t is_t))
@@ -92,7 +92,7 @@ place_found xs from i t q a at since is_i is_t = position_found (λ b. (b.statio
     both_true false c first second = absurd (true≢false (sym first))
 
 -- it keeps its place when others come
-place_kept : (xs more : List Arrival) (from i t k : ℕ) → first_place xs from i t ≡ Some k → first_place (xs ++ more) from i t ≡ Some k
+place_kept : (xs more : List Arrival) (from i t k : ℕ) → first_arrival xs from i t ≡ Some k → first_arrival (xs ++ more) from i t ≡ Some k
 place_kept xs more from i t k h =
     let stands = place_stands xs from i t k h in
     let inside = slice_get_within xs k stands.0 stands.1 in
@@ -154,20 +154,20 @@ full_end : (n : ℕ) (xs : List Arrival) (t from : ℕ) → length (places n xs 
 full_end n xs t from full = ap (λ b. if b then Some (fold (λ m place. max m (place + 1)) from (places n xs from t)) else None) (eq-eqb (length (places n xs from t)) n full)
 
 -- each station of a round that has an end has a place in it
-end_places : (n : ℕ) (xs : List Arrival) (t from s i : ℕ) → end_from n xs t from ≡ Some s → is_among (range_with_len 0 n) i ≡ true → (k : ℕ) × (first_place xs from i t ≡ Some k)
-end_places n xs t from s i h there = let count = length-range_with_len 0 n in filter_map-full (λ j. first_place xs from j t) (range_with_len 0 n) ((end_full n xs t from s h).0 ∙ sym count) i there
+end_places : (n : ℕ) (xs : List Arrival) (t from s i : ℕ) → end_from n xs t from ≡ Some s → is_among (range_with_len 0 n) i ≡ true → (k : ℕ) × (first_arrival xs from i t ≡ Some k)
+end_places n xs t from s i h there = let count = length-range_with_len 0 n in filter_map-full (λ j. first_arrival xs from j t) (range_with_len 0 n) ((end_full n xs t from s h).0 ∙ sym count) i there
 
 -- the end stays where more arrivals come
 end_kept : (n : ℕ) (xs more : List Arrival) (t from s : ℕ) → end_from n xs t from ≡ Some s → end_from n (xs ++ more) t from ≡ Some s
 end_kept n xs more t from s h =
-    let same : places n (xs ++ more) from t ≡ places n xs from t = filter_map-same (λ i. first_place (xs ++ more) from i t) (λ i. first_place xs from i t) (range_with_len 0 n)
+    let same : places n (xs ++ more) from t ≡ places n xs from t = filter_map-same (λ i. first_arrival (xs ++ more) from i t) (λ i. first_arrival xs from i t) (range_with_len 0 n)
     (λ i there. let place = end_places n xs t from s i h there in place_kept xs more from i t place.0 place.1 ∙ sym place.1) in
     ap (λ found. if length found == n then Some (fold (λ m place. max m (place + 1)) from found) else None) same ∙ h
 
 -- it is no place past the arrivals
 end_within : (n : ℕ) (xs : List Arrival) (t from s : ℕ) → from ≤ length xs → end_from n xs t from ≡ Some s → s ≤ length xs
 end_within n xs t from s low h =
-    let bound = last_place (λ i. first_place xs from i t) (length xs) from (range_with_len 0 n) low (λ i k found. let stands = place_stands xs from i t k found in slice_get_within xs k stands.0 stands.1) in
+    let bound = last_place (λ i. first_arrival xs from i t) (length xs) from (range_with_len 0 n) low (λ i k found. let stands = place_stands xs from i t k found in slice_get_within xs k stands.0 stands.1) in
     let is = (end_full n xs t from s h).1 in
     omega arith
 
@@ -250,7 +250,7 @@ in_time_accepted n xs timely q a at =
     let place = place_found xs start.0 a.station a.round q a at start.2 refl refl in
     let stands = place_stands xs start.0 a.station a.round place.0 place.1 in (
       stands.0.word,
-      ap (λ o. option_and_then (λ k. option_map (λ b. b.word) (slice_get xs k)) (option_and_then (λ from. first_place xs from a.station a.round) o)) start.1
+      ap (λ o. option_and_then (λ k. option_map (λ b. b.word) (slice_get xs k)) (option_and_then (λ from. first_arrival xs from a.station a.round) o)) start.1
           ∙ ap (option_and_then (λ k. option_map (λ b. b.word) (slice_get xs k))) place.1
           ∙ ap (option_map (λ b. b.word)) stands.1,
     )
@@ -261,12 +261,12 @@ pub record IsNew (n rounds : ℕ) (before : List Arrival) (a : Arrival) : Type 0
   pub none : accepted n before a.station a.round ≡ None
 
 -- what the hub takes is new
-taken_new : (n rounds : ℕ) (before : List Arrival) (a : Arrival) → is_taken (answer n rounds before a) ≡ true → IsNew n rounds before a
+taken_new : (n rounds : ℕ) (before : List Arrival) (a : Arrival) → is_taken (reply n rounds before a) ≡ true → IsNew n rounds before a
 taken_new n rounds before a h =
     let now = complete_rounds n rounds before in
     step (nat_le n a.station) (now == rounds) (nat_lt a.round now) (nat_lt now a.round) (accepted n before a.station now) refl refl refl h
   where
-    last : (o : Option (List ℕ)) → accepted n before a.station (complete_rounds n rounds before) ≡ o → is_taken (answer_now n before a o) ≡ true → nat_lt a.round (complete_rounds n rounds before) ≡ false → nat_lt (complete_rounds n rounds before) a.round ≡ false → IsNew n rounds before a
+    last : (o : Option (List ℕ)) → accepted n before a.station (complete_rounds n rounds before) ≡ o → is_taken (reply_now n before a o) ≡ true → nat_lt a.round (complete_rounds n rounds before) ≡ false → nat_lt (complete_rounds n rounds before) a.round ≡ false → IsNew n rounds before a
     last (Some kept) is taken low high = absurd (true≢false (sym taken))
     last None is taken low high =
         let not_below = ltb-false a.round (complete_rounds n rounds before) low in
@@ -275,7 +275,7 @@ taken_new n rounds before a h =
         record { now = same; none = ap (accepted n before a.station) (sym same) ∙ is }
 
     step : (b c d e : Bool) (o : Option (List ℕ)) → nat_lt a.round (complete_rounds n rounds before) ≡ d → nat_lt (complete_rounds n rounds before) a.round ≡ e → accepted n before a.station (complete_rounds n rounds before) ≡ o →
-        is_taken (if b then no_station a.station else if c then over else if d then old (complete_rounds n rounds before) else if e then ahead (complete_rounds n rounds before) else answer_now n before a o) ≡ true → IsNew n rounds before a
+        is_taken (if b then no_station a.station else if c then over else if d then old (complete_rounds n rounds before) else if e then ahead (complete_rounds n rounds before) else reply_now n before a o) ≡ true → IsNew n rounds before a
     step true c d e o is_d is_e is_o taken = absurd (true≢false (sym taken))
     step false true d e o is_d is_e is_o taken = absurd (true≢false (sym taken))
     step false false true e o is_d is_e is_o taken = absurd (true≢false (sym taken))
@@ -315,10 +315,10 @@ new_single n rounds before a timely single new = record {
         none_some word.0 _ word.1 (ap (λ i. accepted n before i b.round) station ∙ ap (accepted n before a.station) round ∙ new.none)
 
 -- where no arrival is refused, all came in time and none repeats another
-taken_good : (n rounds : ℕ) (before more : List Arrival) → AreInTime n before → AreSingle before → list_all is_taken (answers_after n rounds before more) ≡ true → AreInTime n (before ++ more) × AreSingle (before ++ more)
+taken_good : (n rounds : ℕ) (before more : List Arrival) → AreInTime n before → AreSingle before → list_all is_taken (replies_after n rounds before more) ≡ true → AreInTime n (before ++ more) × AreSingle (before ++ more)
 taken_good n rounds before [] timely single h = (subst (AreInTime n) (sym (append-nil before)) timely, subst AreSingle (sym (append-nil before)) single)
 taken_good n rounds before (a ∷ more) timely single h =
-    let tests = and_parts (is_taken (answer n rounds before a)) (list_all is_taken (answers_after n rounds (before ++ a ∷ []) more)) h in
+    let tests = and_parts (is_taken (reply n rounds before a)) (list_all is_taken (replies_after n rounds (before ++ a ∷ []) more)) h in
     let new = taken_new n rounds before a tests.0 in
     let rest = taken_good n rounds (before ++ a ∷ []) more (new_in_time n rounds before a timely new) (new_single n rounds before a timely single new) tests.1 in
     let joined : (before ++ a ∷ []) ++ more ≡ before ++ (a ∷ more) = append_assoc before (a ∷ []) more in
@@ -342,7 +342,7 @@ ended_too n xs ys moved timely (suc t) s h =
     let before = start_before n xs t s h in
     let began = ended_too n xs ys moved timely t before.0 before.1 in
     let count = length-range_with_len 0 n in
-    let full = full-filter_map (λ i. first_place ys began.0 i t) (range_with_len 0 n) (λ i there.
+    let full = full-filter_map (λ i. first_arrival ys began.0 i t) (range_with_len 0 n) (λ i there.
     let place = end_places n xs t before.0 s i before.2 there in
     let stands = place_stands xs before.0 i t place.0 place.1 in
     let again = stands_in xs ys moved place.0 stands.0 stands.1 in
@@ -363,7 +363,7 @@ accepted_stands n xs t s i h there =
       stands.1,
       stands.2,
       stands.3,
-      ap (λ o. option_and_then (λ k. option_map (λ b. b.word) (slice_get xs k)) (option_and_then (λ from. first_place xs from i t) o)) before.1
+      ap (λ o. option_and_then (λ k. option_map (λ b. b.word) (slice_get xs k)) (option_and_then (λ from. first_arrival xs from i t) o)) before.1
           ∙ ap (option_and_then (λ k. option_map (λ b. b.word) (slice_get xs k))) place.1
           ∙ ap (option_map (λ b. b.word)) stands.1,
     )

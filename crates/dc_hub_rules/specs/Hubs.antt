@@ -1,4 +1,4 @@
--- The hub: which arrivals it accepts, which rounds are complete, and what it answers, as places in one list of all arrivals.
+-- The hub: which arrivals it accepts, which rounds are complete, and what it replies, as places in one list of all arrivals.
 use Rattle.std.specs.Prelude.{ℕ, zero, suc, ◌+◌, max, ◌==◌, ◌&&◌, nat_lt, nat_le, if◌then◌else◌, List, [], ◌∷◌, ◌++◌, length, drop, fold, find, count_by, filter_map, slice_get, Option, Some, None, option_map, option_and_then, is_some, is_none, Bool, true, false, IsTrue}
 use Rattle.std.specs.List.{range_with_len, position_from, list_all}
 use Rattle.dc_spec.specs.Words.{word_sum}
@@ -10,22 +10,22 @@ pub record Arrival : Type 0 where
   pub word : List ℕ
 
 -- an answer: the least station still missing, the sum of the complete round, or a refusal: by its number, at the end, by the round in progress (below, above), by the word kept
-pub data HubAnswer : Type 0 where
-  waiting : ℕ → HubAnswer
-  complete : List ℕ → HubAnswer
-  no_station : ℕ → HubAnswer
-  over : HubAnswer
-  old : ℕ → HubAnswer
-  ahead : ℕ → HubAnswer
-  repeated : List ℕ → HubAnswer
+pub data HubReply : Type 0 where
+  waiting : ℕ → HubReply
+  complete : List ℕ → HubReply
+  no_station : ℕ → HubReply
+  over : HubReply
+  old : ℕ → HubReply
+  ahead : ℕ → HubReply
+  repeated : List ℕ → HubReply
 
 -- the first place, not before this one, at which a station's word for a round stands
-abbrev pub first_place : List Arrival → ℕ → ℕ → ℕ → Option ℕ
-first_place arrivals from i t = position_from (λ a. (a.station == i) && (a.round == t)) from (drop from arrivals)
+abbrev pub first_arrival : List Arrival → ℕ → ℕ → ℕ → Option ℕ
+first_arrival arrivals from i t = position_from (λ a. (a.station == i) && (a.round == t)) from (drop from arrivals)
 
 -- the places of all stations' words for a round, each the first not before this one
 abbrev pub places : ℕ → List Arrival → ℕ → ℕ → List ℕ
-places n arrivals from t = filter_map (λ i. first_place arrivals from i t) (range_with_len 0 n)
+places n arrivals from t = filter_map (λ i. first_arrival arrivals from i t) (range_with_len 0 n)
 
 -- one past the last of the places, where every station has one
 abbrev pub end_from : ℕ → List Arrival → ℕ → ℕ → Option ℕ
@@ -38,7 +38,7 @@ round_start n arrivals (suc t) = option_and_then (end_from n arrivals t) (round_
 
 -- the place of the accepted arrival of a station in a round: its first one since the round began
 abbrev pub accepted_place : ℕ → List Arrival → ℕ → ℕ → Option ℕ
-accepted_place n arrivals i t = option_and_then (λ from. first_place arrivals from i t) (round_start n arrivals t)
+accepted_place n arrivals i t = option_and_then (λ from. first_arrival arrivals from i t) (round_start n arrivals t)
 
 -- the accepted word of a station in a round
 abbrev pub accepted : ℕ → List Arrival → ℕ → ℕ → Option (List ℕ)
@@ -64,41 +64,41 @@ complete_rounds n rounds arrivals = count_by (is_complete n arrivals) (range_wit
 abbrev pub first_missing : ℕ → List Arrival → ℕ → Option ℕ
 first_missing n arrivals t = find (λ i. is_none (accepted n arrivals i t)) (range_with_len 0 n)
 
--- what the hub answers where an arrival is accepted as a word of the round in progress
-abbrev pub answer_accepted : ℕ → List Arrival → ℕ → Option ℕ → HubAnswer
-answer_accepted n arrivals t None = complete (accepted_sum n arrivals t)
-answer_accepted n arrivals t (Some missing) = waiting missing
+-- what the hub replies where an arrival is accepted as a word of the round in progress
+abbrev pub reply_accepted : ℕ → List Arrival → ℕ → Option ℕ → HubReply
+reply_accepted n arrivals t None = complete (accepted_sum n arrivals t)
+reply_accepted n arrivals t (Some missing) = waiting missing
 
--- what it answers to an arrival for the round in progress, by the word that it has of that station
-abbrev pub answer_now : ℕ → List Arrival → Arrival → Option (List ℕ) → HubAnswer
-answer_now n before a (Some kept) = repeated kept
-answer_now n before a None = answer_accepted n (before ++ a ∷ []) a.round (first_missing n (before ++ a ∷ []) a.round)
+-- what it replies to an arrival for the round in progress, by the word that it has of that station
+abbrev pub reply_now : ℕ → List Arrival → Arrival → Option (List ℕ) → HubReply
+reply_now n before a (Some kept) = repeated kept
+reply_now n before a None = reply_accepted n (before ++ a ∷ []) a.round (first_missing n (before ++ a ∷ []) a.round)
 
--- what a hub of so many stations and rounds answers to an arrival, after the arrivals before it
-abbrev pub answer : ℕ → ℕ → List Arrival → Arrival → HubAnswer
-answer n rounds before a =
+-- what a hub of so many stations and rounds replies to an arrival, after the arrivals before it
+abbrev pub reply : ℕ → ℕ → List Arrival → Arrival → HubReply
+reply n rounds before a =
     let now = complete_rounds n rounds before in
     if nat_le n a.station then no_station a.station
     else if now == rounds then over
     else if nat_lt a.round now then old now
     else if nat_lt now a.round then ahead now
-    else answer_now n before a (accepted n before a.station now)
+    else reply_now n before a (accepted n before a.station now)
 
--- the answers to the arrivals of a list one after the other, where others came before them
-abbrev pub answers_after : ℕ → ℕ → List Arrival → List Arrival → List HubAnswer
-answers_after n rounds before [] = []
-answers_after n rounds before (a ∷ more) = answer n rounds before a ∷ answers_after n rounds (before ++ a ∷ []) more
+-- the replies to the arrivals of a list one after the other, where others came before them
+abbrev pub replies_after : ℕ → ℕ → List Arrival → List Arrival → List HubReply
+replies_after n rounds before [] = []
+replies_after n rounds before (a ∷ more) = reply n rounds before a ∷ replies_after n rounds (before ++ a ∷ []) more
 
--- the answers to all arrivals of a session
-abbrev pub answers : ℕ → ℕ → List Arrival → List HubAnswer
-answers n rounds arrivals = answers_after n rounds [] arrivals
+-- the replies to all arrivals of a session
+abbrev pub replies : ℕ → ℕ → List Arrival → List HubReply
+replies n rounds arrivals = replies_after n rounds [] arrivals
 
--- whether an answer takes the arrival in
-abbrev pub is_taken : HubAnswer → Bool
+-- whether an reply takes the arrival in
+abbrev pub is_taken : HubReply → Bool
 is_taken (waiting missing) = true
 is_taken (complete sum) = true
 is_taken _ = false
 
 -- no arrival of the list is refused
 abbrev pub AreAllTaken : ℕ → ℕ → List Arrival → Type 0
-AreAllTaken n rounds arrivals = IsTrue (list_all is_taken (answers n rounds arrivals))
+AreAllTaken n rounds arrivals = IsTrue (list_all is_taken (replies n rounds arrivals))

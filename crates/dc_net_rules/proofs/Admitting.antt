@@ -9,7 +9,7 @@ use Rattle.std.proofs.lemmas.Slice.Eq.{bytes_eq-Decides}
 use Rattle.dc_spec.specs.Net.{Net}
 use Rattle.dc_graph_rules.specs.Graphs.{IsKeyGraph, key_graph}
 use Rattle.dc_spec.specs.Lists.{is_among}
-use Rattle.dc_net_rules.specs.Runs.{Round, word_at, honest_stations, all_rounds, IsAlikeIn, IsAlike, is_alike_in, is_alike}
+use Rattle.dc_net_rules.specs.Runs.{Round, word_of_station, honest_stations, all_rounds, IsAlikeIn, IsAlike, is_alike_in, is_alike}
 use Rattle.dc_net_rules.specs.Twins.{IsPermutationOf, Admits, are_distinct, is_permutation_of, admits}
 use Rattle.dc_spec.proofs.Booleans.{or_cases, or_first, or_second}
 use Rattle.dc_spec.proofs.ListLemmas.{in_range, below_range}
@@ -31,8 +31,8 @@ all_from p (y ∷ ys) each = and_from _ _ (each y (or_first (nat_eq y y) (is_amo
 alike_in : (net : Net) (round : Round) → IsTrue (is_alike_in net round) ↔ IsAlikeIn net round
 alike_in net round =
     let honest = honest_stations net in (
-      λ all i j honest_i honest_j. (bytes_eq-Decides (word_at round.received i) (word_at round.received j)).0 (all_at _ honest (all_at _ honest all i honest_i) j honest_j),
-      λ alike. all_from _ honest (λ i honest_i. all_from _ honest (λ j honest_j. (bytes_eq-Decides (word_at round.received i) (word_at round.received j)).1 (alike i j honest_i honest_j))),
+      λ all i j honest_i honest_j. (bytes_eq-Decides (word_of_station round.received i) (word_of_station round.received j)).0 (all_at _ honest (all_at _ honest all i honest_i) j honest_j),
+      λ alike. all_from _ honest (λ i honest_i. all_from _ honest (λ j honest_j. (bytes_eq-Decides (word_of_station round.received i) (word_of_station round.received j)).1 (alike i j honest_i honest_j))),
     )
 
 -- a run is alike

@@ -19,20 +19,20 @@ pub record Round : Type 0 where
   pub received : List (List ℕ)
 
 -- the word of a list by station, the zero word past its end
-abbrev pub word_at : List (List ℕ) → ℕ → List ℕ
-word_at words i = slice_index_or words i zero_word
+abbrev pub word_of_station : List (List ℕ) → ℕ → List ℕ
+word_of_station words i = slice_index_or words i zero_word
 
 -- the word that a list of stations and words has for a station
 abbrev pub listed_word : List (ℕ × List ℕ) → ℕ → List ℕ
 listed_word listed i = option_map_or (λ entry. entry.1) (find (λ entry. entry.0 == i) listed) zero_word
 
 -- the stream of a station, one that has nothing to say where the net has none
-abbrev pub stream_of : Net → ℕ → Stream
-stream_of net i = unwrap_or (slice_index_or net.streams i None) (record { shorts = []; longs = []; coins = [] })
+abbrev pub station_stream : Net → ℕ → Stream
+station_stream net i = unwrap_or (slice_index_or net.streams i None) (record { shorts = []; longs = []; coins = [] })
 
 -- what the script says of a round, nothing past its end
-abbrev pub turn_of : Net → ℕ → Turn
-turn_of net t = slice_index_or net.script t (record { says = []; delivery = all_sum })
+abbrev pub script_turn : Net → ℕ → Turn
+script_turn net t = slice_index_or net.script t (record { says = []; delivery = all_sum })
 
 -- the honest stations of a net, in rising order
 abbrev pub honest_stations : Net → List ℕ
@@ -40,7 +40,7 @@ honest_stations net = filter (λ i. not (is_among net.coalition i)) (range_with_
 
 -- the words that a station received in the rounds that were played
 abbrev pub history : List Round → ℕ → List (List ℕ)
-history rounds i = map (λ round. word_at round.received i) rounds
+history rounds i = map (λ round. word_of_station round.received i) rounds
 
 -- what a station hears of a round: the sum, or the word that is dealt to it
 abbrev pub heard : Delivery → List ℕ → ℕ → List ℕ
@@ -53,14 +53,14 @@ station_word stream pairs i received = word_add (plain_word stream received) (ke
 
 -- the word of a station in the round after those played: a member's is the script's
 abbrev pub next_word : Net → List Round → ℕ → List ℕ
-next_word net played i = if is_among net.coalition i then listed_word (turn_of net (length played)).says i else station_word (stream_of net i) net.keys.pairs i (history played i)
+next_word net played i = if is_among net.coalition i then listed_word (script_turn net (length played)).says i else station_word (station_stream net i) net.keys.pairs i (history played i)
 
 -- the round after those played
 abbrev pub next_round : Net → List Round → Round
 next_round net played =
     let words = map (next_word net played) (range_with_len 0 net.stations) in
     let sum = word_sum words in
-    record { words = words; sum = sum; received = map (heard (turn_of net (length played)).delivery sum) (range_with_len 0 net.stations) }
+    record { words = words; sum = sum; received = map (heard (script_turn net (length played)).delivery sum) (range_with_len 0 net.stations) }
 
 -- the first so many rounds of a net
 unfoldable pub rounds_of : Net → ℕ → List Round
@@ -78,10 +78,10 @@ recorded net played =
     record {
       words = flat_map (λ round. round.words) played;
       sums = map (λ round. round.sum) played;
-      delivered = flat_map (λ round. map (word_at round.received) stations) played;
+      delivered = flat_map (λ round. map (word_of_station round.received) stations) played;
       logs = map (λ i. log_of (history played i)) stations;
-      sents = map (λ i. sent_of (stream_of net i) (history played i)) stations;
-      pending = map (λ i. pending_counts (stream_of net i) (history played i)) stations;
+      sents = map (λ i. sent_of (station_stream net i) (history played i)) stations;
+      pending = map (λ i. pending_counts (station_stream net i) (history played i)) stations;
     }
 
 -- the run of a net
@@ -94,7 +94,7 @@ IsHonest net i = IsTrue (is_among (honest_stations net) i)
 
 -- all honest stations received one and the same word in a round
 abbrev pub IsAlikeIn : Net → Round → Type 0
-IsAlikeIn net round = (i j : ℕ) → IsHonest net i → IsHonest net j → word_at round.received i ≡ word_at round.received j
+IsAlikeIn net round = (i j : ℕ) → IsHonest net i → IsHonest net j → word_of_station round.received i ≡ word_of_station round.received j
 
 -- they did in each round
 abbrev pub IsAlike : Net → Type 0
@@ -102,7 +102,7 @@ IsAlike net = All (IsAlikeIn net) (all_rounds net)
 
 -- whether all honest stations received one and the same word in a round
 abbrev pub is_alike_in : Net → Round → Bool
-is_alike_in net round = list_all (λ i. list_all (λ j. bytes_eq (word_at round.received i) (word_at round.received j)) (honest_stations net)) (honest_stations net)
+is_alike_in net round = list_all (λ i. list_all (λ j. bytes_eq (word_of_station round.received i) (word_of_station round.received j)) (honest_stations net)) (honest_stations net)
 
 -- whether they did in each round
 abbrev pub is_alike : Net → Bool

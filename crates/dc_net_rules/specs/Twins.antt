@@ -10,7 +10,7 @@ use Rattle.dc_spec.specs.Lists.{is_among}
 use Rattle.dc_graph_rules.specs.Forests.{is_parent, parents, below_sums}
 use Rattle.dc_key_rules.specs.PairKeys.{symbols, pads_add}
 use Rattle.dc_station_rules.specs.Stations.{plain_word}
-use Rattle.dc_net_rules.specs.Runs.{Round, word_at, stream_of, history, all_rounds}
+use Rattle.dc_net_rules.specs.Runs.{Round, word_of_station, station_stream, history, all_rounds}
 
 -- a permutation of so many stations: the image of station i stands at place i
 pub record IsPermutationOf (n : ℕ) (p : List ℕ) : Type 0 where
@@ -46,7 +46,7 @@ moved net p = record net { streams = map (λ i. slice_index_or net.streams i Non
 
 -- the demand of a station after the words that it received: its plain word, minus the one that its new stream gives
 abbrev pub demand : Net → List ℕ → ℕ → List (List ℕ) → List ℕ
-demand net p i received = word_sub (plain_word (stream_of net i) received) (plain_word (stream_of (moved net p) i) received)
+demand net p i received = word_sub (plain_word (station_stream net i) received) (plain_word (station_stream (moved net p) i) received)
 
 -- the demands of one round by station, each over the words that the station received in earlier rounds
 abbrev pub demands_in : Net → List ℕ → List Round → ℕ → List (List ℕ)
@@ -68,7 +68,7 @@ child_end ps pair = if is_parent ps pair.v pair.u then Some pair.u else if is_pa
 
 -- the shift of a tree edge: in each round the sum of the demands below its child, plus where that is the smaller end, else minus
 abbrev pub tree_shift : List (List (List ℕ)) → Pair → ℕ → Shift
-tree_shift sums pair child = record { u = pair.u; v = pair.v; words = map (λ below. if child == pair.u then word_at below child else word_sub zero_word (word_at below child)) sums }
+tree_shift sums pair child = record { u = pair.u; v = pair.v; words = map (λ below. if child == pair.u then word_of_station below child else word_sub zero_word (word_of_station below child)) sums }
 
 -- the shifts of all tree edges, in the order of the pairs
 abbrev pub shifts : Net → List ℕ → List Shift

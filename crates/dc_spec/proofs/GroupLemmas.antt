@@ -7,7 +7,7 @@ use Rattle.std.proofs.lemmas.Bool.{not-false}
 use Rattle.std.proofs.Math.Nat.{div-add-mod}
 use Rattle.std.proofs.lemmas.List.FromFn.{get_or-map-range_with_len}
 use Rattle.dc_spec.specs.Values.{number_of, fifteen, word_count}
-use Rattle.dc_spec.specs.Groups.{Group, group_count, split_count, limb, first_place, counted, high_limb, judged_group, group_of, rest_of, unfit_limb, judged_split, minus, uneven_limb, divided}
+use Rattle.dc_spec.specs.Groups.{Group, group_count, split_count, limb, first_limb_where, counted, high_limb, group_or_fault, group_of, group_rest, unfit_limb, rest_or_fault, minus, uneven_limb, divided}
 
 -- the two answers of a result
 pub err-ok : {A B : Type 0} {e : B} {x : A} → Err e ≡ Ok x → ⊥
@@ -28,8 +28,8 @@ find-none test a (suc n) zero e lt = let place : a ≡ a + 0 = omega arith in su
 find-none test a (suc n) (suc i) e lt = let place : a + 1 + i ≡ a + suc i = omega arith in subst (λ k. test k ≡ false) place (find-none test (a + 1) n i (cond-none (test a) a _ e).1 (omega arith))
 
 -- a test that holds at none of the fifteen places
-pub first_place-none : (test : ℕ → Bool) → first_place test ≡ None → (i : ℕ) → i < 15 → test i ≡ false
-unfolding first_place
+pub first_place-none : (test : ℕ → Bool) → first_limb_where test ≡ None → (i : ℕ) → i < 15 → test i ≡ false
+unfolding first_limb_where
 first_place-none test e i lt = let place : 0 + i ≡ i = omega arith in subst (λ k. test k ≡ false) place (find-none test 0 15 i e lt)
 
 -- a search of places that all fail
@@ -39,8 +39,8 @@ finds-none test a (suc n) each =
     let here : test a ≡ false = let place : a + 0 ≡ a = omega arith in subst (λ k. test k ≡ false) place (each 0 (omega arith)) in
     rw here (finds-none test (a + 1) n (λ i lt. let place : a + suc i ≡ a + 1 + i = omega arith in subst (λ k. test k ≡ false) place (each (suc i) (omega arith))))
 
-pub first_place-fails : (test : ℕ → Bool) → ((i : ℕ) → i < 15 → test i ≡ false) → first_place test ≡ None
-unfolding first_place
+pub first_place-fails : (test : ℕ → Bool) → ((i : ℕ) → i < 15 → test i ≡ false) → first_limb_where test ≡ None
+unfolding first_limb_where
 first_place-fails test each = finds-none test 0 15 (λ i lt. let place : i ≡ 0 + i = omega arith in subst (λ k. test k ≡ false) place (each i lt))
 
 -- fifteen numbers
@@ -59,7 +59,7 @@ pub record IsGroup (group : Group) : Type 0 where
   pub limbs : (i : ℕ) → i < 15 → limb group i ≤ 255 * group.count
 
 -- the limbs of a word that is judged as a group
-group_of-judged : (word : List ℕ) (group : Group) (o : Option ℕ) → high_limb (counted word) ≡ o → word_count word ≤ 256 → judged_group (counted word) o ≡ Ok group → (group ≡ counted word) × IsGroup group
+group_of-judged : (word : List ℕ) (group : Group) (o : Option ℕ) → high_limb (counted word) ≡ o → word_count word ≤ 256 → group_or_fault (counted word) o ≡ Ok group → (group ≡ counted word) × IsGroup group
 group_of-judged word group (Some i) place le e = absurd (err-ok e)
 group_of-judged word group None place le e = (sym (ok-inj e), subst IsGroup (ok-inj e) is)
   where
@@ -71,7 +71,7 @@ pub group_of-ok : (word : List ℕ) (group : Group) → group_of word ≡ Ok gro
 unfolding group_of
 group_of-ok word group e = by_count (nat_lt 256 (word_count word)) refl e
   where
-    by_count : (b : Bool) → nat_lt 256 (word_count word) ≡ b → cond b (Err (group_count (word_count word))) (judged_group (counted word) (high_limb (counted word))) ≡ Ok group → (group ≡ counted word) × IsGroup group
+    by_count : (b : Bool) → nat_lt 256 (word_count word) ≡ b → cond b (Err (group_count (word_count word))) (group_or_fault (counted word) (high_limb (counted word))) ≡ Ok group → (group ≡ counted word) × IsGroup group
     by_count true h r = absurd (err-ok r)
     by_count false h r = group_of-judged word group (high_limb (counted word)) refl (ltb-false _ _ h) r
 
@@ -82,14 +82,14 @@ or-false true b e = absurd (true≢false e)
 
 -- what it means that a group is a part of a whole
 pub record IsPart (whole part rest : Group) : Type 0 where
-  pub is_rest : rest ≡ rest_of whole part
+  pub is_rest : rest ≡ group_rest whole part
   pub some_count : 0 < part.count
   pub most_count : part.count ≤ whole.count
   pub limbs : (i : ℕ) → i < 15 → limb part i ≤ limb whole i
   pub rests : (i : ℕ) → i < 15 → limb whole i - limb part i ≤ 255 * (whole.count - part.count)
 
 -- a split whose counts fit
-minus-judged : (whole part rest : Group) (o : Option ℕ) → unfit_limb whole part ≡ o → 0 < part.count → part.count ≤ whole.count → judged_split whole part o ≡ Ok rest → IsPart whole part rest
+minus-judged : (whole part rest : Group) (o : Option ℕ) → unfit_limb whole part ≡ o → 0 < part.count → part.count ≤ whole.count → rest_or_fault whole part o ≡ Ok rest → IsPart whole part rest
 minus-judged whole part rest (Some i) place some most e = absurd (err-ok e)
 minus-judged whole part rest None place some most e = record {
   is_rest = sym (ok-inj e);
@@ -104,7 +104,7 @@ pub minus-ok : (whole part rest : Group) → minus whole part ≡ Ok rest → Is
 unfolding minus
 minus-ok whole part rest e = by_counts (part.count == 0) (nat_lt whole.count part.count) refl refl e
   where
-    by_counts : (a b : Bool) → (part.count == 0) ≡ a → nat_lt whole.count part.count ≡ b → cond (a || b) (Err (split_count whole.count part.count)) (judged_split whole part (unfit_limb whole part)) ≡ Ok rest → IsPart whole part rest
+    by_counts : (a b : Bool) → (part.count == 0) ≡ a → nat_lt whole.count part.count ≡ b → cond (a || b) (Err (split_count whole.count part.count)) (rest_or_fault whole part (unfit_limb whole part)) ≡ Ok rest → IsPart whole part rest
     by_counts true b h k r = absurd (err-ok r)
     by_counts false true h k r = absurd (err-ok r)
     by_counts false false h k r = minus-judged whole part rest (unfit_limb whole part) refl (pos_of_ne-zero (λ z. true≢false (sym (eq-eqb _ _ z) ∙ h))) (ltb-false _ _ k) r
@@ -114,7 +114,7 @@ pub rest-IsGroup : (whole part rest : Group) → IsGroup whole → IsPart whole 
 rest-IsGroup whole part rest is part_is = subst IsGroup (sym part_is.is_rest) (record {
   count = let below : whole.count ≤ 256 = is.count in omega arith;
   fifteen = length-fifteen _;
-  limbs = λ i lt. let same : limb (rest_of whole part) i ≡ limb whole i - limb part i = get_or-fifteen _ i lt in rw same (part_is.rests i lt);
+  limbs = λ i lt. let same : limb (group_rest whole part) i ≡ limb whole i - limb part i = get_or-fifteen _ i lt in rw same (part_is.rests i lt);
 })
 
 -- where no limb is uneven, each limb is so many times its share

@@ -12,14 +12,16 @@ symbol_bytes x = to_be_bytes w32 x
 abbrev pub word_bytes : List ℕ → List ℕ
 word_bytes w = flat_map symbol_bytes w
 
--- the number that four bytes from this place on spell
+-- the number that the four bytes from this place on spell
 abbrev pub number_at : List ℕ → ℕ → ℕ
-number_at bytes at = ((slice_index bytes at * 256 + slice_index bytes (at + 1)) * 256 + slice_index bytes (at + 2)) * 256 + slice_index bytes (at + 3)
+number_at bytes at =
+    ((slice_index bytes at * 256 + slice_index bytes (at + 1)) * 256 + slice_index bytes (at + 2)) * 256
+    + slice_index bytes (at + 3)
 
--- the number that two bytes from this place on spell
+-- the number that the two bytes from this place on spell
 abbrev pub short_at : List ℕ → ℕ → ℕ
 short_at bytes at = slice_index bytes at * 256 + slice_index bytes (at + 1)
 
--- the sixteen numbers that sixty-four bytes from this place on spell
+-- the sixteen numbers that the sixty-four bytes from this place on spell
 abbrev pub word_at : List ℕ → ℕ → List ℕ
 word_at bytes at = word_of (λ l. number_at bytes (at + 4 * l))

@@ -1,10 +1,10 @@
--- What a net is made of, and what a run of it records. A word is a list of sixteen symbols, a value a list of fifteen bytes.
+-- What a net is made of, and what a run of it records.
 use Rattle.std.specs.Prelude.{ℕ, List, Option}
 use Rattle.dc_spec.specs.Entries.{Entry, Stream}
 use Rattle.dc_spec.specs.Scripts.{Turn}
 use Rattle.dc_spec.specs.Pads.{Keys}
 
--- a net: the key graph, the coalition, the keys, a stream for each station that has one, the coalition's script
+-- a net: the number of stations, the edges of the key graph, the coalition's stations, the pads, a stream for each station that has one, the coalition's script, the number of words of a session
 pub record Net : Type 0 where
   pub stations : ℕ
   pub edges : List (ℕ × ℕ)
@@ -14,8 +14,8 @@ pub record Net : Type 0 where
   pub script : List Turn
   pub words : ℕ
 
--- a run: the words by round and station, their sums by round, the words received by round and honest station,
--- and for each honest station its log, its sent entries and how many shorts and longs are pending
+-- a run: all words, those of a round by station; the sum of each round; all received words, those of a round by honest station;
+-- and for each honest station its log, its sent entries, and how many values and messages are pending
 pub record Run : Type 0 where
   pub words : List (List ℕ)
   pub sums : List (List ℕ)

@@ -8,7 +8,7 @@ pub record Pair : Type 0 where
   pub a : List ℕ
   pub b : List ℕ
 
--- a key file: for how many stations and words it was made, and its pairs
+-- a key file: how many stations and words it is for, and its pairs
 pub record Keys : Type 0 where
   pub stations : ℕ
   pub words : ℕ

@@ -2,6 +2,7 @@
 use Rattle.std.specs.Prelude.{ℕ, ◌*◌, ◌≤◌, ◌≡◌, List, ◌++◌, length, take, drop, map, codes}
 use Rattle.std.specs.List.{range_with_len, flat_map}
 use Rattle.std.specs.Int.{w16, to_be_bytes}
+use Rattle.dc_spec.specs.Limits as limit
 use Rattle.dc_spec.specs.Words.{AreWords, word_sum}
 use Rattle.dc_spec.specs.Bytes.{word_bytes}
 
@@ -11,12 +12,12 @@ pub record Recorded : Type 0 where
   pub rounds : ℕ
   pub words : List (List ℕ)
 
--- 1 to 256 stations, 1 to 4096 rounds, and a word for each station and round
+-- at least one station and one round, no more than the limits, and a word for each station and round
 pub record IsRecorded (t : Recorded) : Type 0 where
   pub some_stations : 1 ≤ t.stations
-  pub most_stations : t.stations ≤ 256
+  pub most_stations : t.stations ≤ limit.most_stations
   pub some_rounds : 1 ≤ t.rounds
-  pub most_rounds : t.rounds ≤ 4096
+  pub most_rounds : t.rounds ≤ limit.most_words
   pub count : length t.words ≡ t.rounds * t.stations
   pub are_words : AreWords t.words
 

@@ -1,7 +1,7 @@
--- Scripts: for each round what the members of the coalition say and what is delivered.
+-- Scripts: for each round the words of the coalition's members, and what is delivered to the other stations.
 use Rattle.std.specs.Prelude.{ℕ, List}
 
--- what the honest stations receive in a round: the sum, or a dealt word for each of them
+-- what the honest stations receive in a round: the sum, or a word for each of them
 pub data Delivery : Type 0 where
   all_sum : Delivery
   each : List (ℕ × List ℕ) → Delivery

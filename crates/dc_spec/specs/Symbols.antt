@@ -2,7 +2,7 @@
 use Rattle.std.specs.Prelude.{ℕ, zero, suc, ◌+◌, ◌-◌, ◌*◌, ◌%◌, List, slice_index}
 use Rattle.dc_spec.specs.Words.{IsSymbol}
 
--- each number of the list is a symbol (past its end a list reads as 0)
+-- each number of a list is a symbol
 abbrev pub AreSymbols : List ℕ → Type 0
 AreSymbols xs = (k : ℕ) → IsSymbol (slice_index xs k)
 

@@ -2,11 +2,11 @@
 use Rattle.std.specs.Prelude.{ℕ, ◌+◌, ◌-◌, ◌%◌, ◌<◌, ◌≡◌, List, length, map, sum_by, slice_index, All}
 use Rattle.std.specs.List.{range_with_len}
 
--- a number that a symbol may be
+-- a number below 65537
 abbrev pub IsSymbol : ℕ → Type 0
 IsSymbol x = x < 65537
 
--- sixteen symbols (past its end a list reads as 0, which is a symbol)
+-- sixteen symbols
 pub record IsWord (w : List ℕ) : Type 0 where
   pub sixteen : length w ≡ 16
   pub symbols : (l : ℕ) → IsSymbol (slice_index w l)

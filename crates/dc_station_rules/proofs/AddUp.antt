@@ -2,7 +2,7 @@
 use Rattle.std.proofs.Common.{◌≡◌, ℕ, ◌+◌, ◌*◌, ◌<◌, ◌≤◌, List, get_or, refl, sym, ap₂, ◌∙◌, subst, arith, zero-add, zero-mul, div-one, one-mul}
 use Rattle.std.proofs.lemmas.List.Sums.{sum_by-append}
 use Rattle.dc_spec.specs.Values.{number_of}
-use Rattle.dc_spec.specs.Groups.{Group, total, limb, rest_of, divided}
+use Rattle.dc_spec.specs.Groups.{Group, total, limb, group_rest, divided}
 use Rattle.dc_station_rules.specs.Epochs.{Leaf}
 use Rattle.dc_station_rules.specs.Resolving.{Resolves, empty, single, equal, halves}
 use Rattle.dc_station_rules.specs.Laws.{times_of, total_of, LeavesAddUp}
@@ -10,7 +10,7 @@ use Rattle.dc_spec.proofs.GroupLemmas.{IsGroup, IsPart, group_of-ok, minus-ok, r
 
 -- the total of a part and of the rest is the total of the whole
 pub total-parts : (whole part rest : Group) → IsGroup whole → IsGroup part → IsPart whole part rest → total whole ≡ total part + total rest
-total-parts whole part rest is part_is split = rw split.is_rest (number_of-add part.limbs (rest_of whole part).limbs whole.limbs
+total-parts whole part rest is part_is split = rw split.is_rest (number_of-add part.limbs (group_rest whole part).limbs whole.limbs
     (part_is.fifteen ∙ sym is.fifteen) (length-fifteen _ ∙ sym is.fifteen)
     (λ i lt. let below : i < 15 = subst (λ n. i < n) is.fifteen lt in let fits : limb part i ≤ limb whole i = split.limbs i below in rw (get_or-fifteen _ i below) (omega arith)))
 

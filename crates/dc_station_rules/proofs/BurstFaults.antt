@@ -3,21 +3,21 @@ use Rattle.std.proofs.Common.{◌≡◌, ℕ, zero, suc, ◌+◌, ◌-◌, ◌*�
 use Rattle.std.proofs.lemmas.Bool.{not-false}
 use Rattle.std.proofs.lemmas.List.{get_or_append_left, take-append-le}
 use Rattle.dc_spec.specs.Values.{word_count}
-use Rattle.dc_station_rules.specs.Bursts.{fragment_count, word_at, carried, told_length, count_fits, length_fault, padding_fault, fault_at}
+use Rattle.dc_station_rules.specs.Bursts.{fragment_count, nth_word, carried, stated_length, count_fits, length_fault, padding_fault, fault_at}
 use Rattle.dc_spec.proofs.GroupLemmas.{finds-none, find-none}
 use Rattle.dc_spec.proofs.Options.{or-none, map-none, if-none}
 
 -- the length that the first word tells needs as many words as its count says
 abbrev pub LengthFits : List (List ℕ) → ℕ → Type 0
-LengthFits words zero = fragment_count (told_length words) ≡ word_count (word_at words 0)
+LengthFits words zero = fragment_count (stated_length words) ≡ word_count (nth_word words 0)
 LengthFits words (suc i) = Unit {0}
 
 -- word i breaks no check
 pub record Passes (words : List (List ℕ)) (i : ℕ) : Type 0 where
   pub count : count_fits words i ≡ true
-  pub limbs : (l : ℕ) → l < 15 → slice_index (word_at words i) (1 + l) ≤ 255
+  pub limbs : (l : ℕ) → l < 15 → slice_index (nth_word words i) (1 + l) ≤ 255
   pub told : LengthFits words i
-  pub padding : word_count (word_at words i) ≡ 1 → (at : ℕ) → at < 15 * (i + 1) - (told_length words + 2) → slice_index (carried (take (i + 1) words)) (told_length words + 2 + at) ≡ 0
+  pub padding : word_count (nth_word words i) ≡ 1 → (at : ℕ) → at < 15 * (i + 1) - (stated_length words + 2) → slice_index (carried (take (i + 1) words)) (stated_length words + 2 + at) ≡ 0
 
 then-none : {A : Type 0} (b : Bool) (o : Option A) → cond b o None ≡ None → b ≡ true → o ≡ None
 then-none true o e is = e
@@ -36,9 +36,9 @@ passes words i e =
     let third = or-none _ _ second.1 in
     record {
       count = if-none _ _ first.0;
-      limbs = λ l lt. ltb-false _ _ (find-none (λ k. nat_lt 255 (slice_index (word_at words i) k)) 1 15 l (map-none _ _ second.0) lt);
+      limbs = λ l lt. ltb-false _ _ (find-none (λ k. nat_lt 255 (slice_index (nth_word words i) k)) 1 15 l (map-none _ _ second.0) lt);
       told = length-none words i third.0;
-      padding = λ one at lt. eqb-true _ _ (not-false _ (find-none (λ k. not (slice_index (carried (take (i + 1) words)) k == 0)) (told_length words + 2) _ at (map-none _ _ (then-none _ _ third.1 (eq-eqb _ _ one))) lt));
+      padding = λ one at lt. eqb-true _ _ (not-false _ (find-none (λ k. not (slice_index (carried (take (i + 1) words)) k == 0)) (stated_length words + 2) _ at (map-none _ _ (then-none _ _ third.1 (eq-eqb _ _ one))) lt));
     }
 
 -- and a word that passes has none
@@ -46,16 +46,16 @@ length-passes : (words : List (List ℕ)) (i : ℕ) → LengthFits words i → l
 length-passes words zero e = rw (eq-eqb _ _ e)
 length-passes words (suc i) e = refl
 
-padding-passes : (words : List (List ℕ)) (i : ℕ) (b : Bool) → (word_count (word_at words i) == 1) ≡ b → Passes words i → padding_fault words i ≡ None
+padding-passes : (words : List (List ℕ)) (i : ℕ) (b : Bool) → (word_count (nth_word words i) == 1) ≡ b → Passes words i → padding_fault words i ≡ None
 padding-passes words i false is pass = rw is
-padding-passes words i true is pass = rw (is, finds-none (λ k. not (slice_index (carried (take (i + 1) words)) k == 0)) (told_length words + 2) (15 * (i + 1) - (told_length words + 2)) (λ at lt. ap not (eq-eqb _ _ (pass.padding (eqb-true _ _ is) at lt))))
+padding-passes words i true is pass = rw (is, finds-none (λ k. not (slice_index (carried (take (i + 1) words)) k == 0)) (stated_length words + 2) (15 * (i + 1) - (stated_length words + 2)) (λ at lt. ap not (eq-eqb _ _ (pass.padding (eqb-true _ _ is) at lt))))
 
 pub no-fault : (words : List (List ℕ)) (i : ℕ) → Passes words i → fault_at words i ≡ None
 unfolding fault_at
-no-fault words i pass = rw (pass.count, finds-none (λ k. nat_lt 255 (slice_index (word_at words i) k)) 1 15 (λ l lt. le-ltb _ _ (pass.limbs l lt)), length-passes words i pass.told, padding-passes words i (word_count (word_at words i) == 1) refl pass)
+no-fault words i pass = rw (pass.count, finds-none (λ k. nat_lt 255 (slice_index (nth_word words i) k)) 1 15 (λ l lt. le-ltb _ _ (pass.limbs l lt)), length-passes words i pass.told, padding-passes words i (word_count (nth_word words i) == 1) refl pass)
 
 -- a word is judged by it and the words before it
-word_at-append : (words more : List (List ℕ)) (i : ℕ) → i < length words → word_at (words ++ more) i ≡ word_at words i
+word_at-append : (words more : List (List ℕ)) (i : ℕ) → i < length words → nth_word (words ++ more) i ≡ nth_word words i
 word_at-append words more i lt = get_or_append_left words more [] i lt
 
 pub fault_at-append : (words more : List (List ℕ)) (i : ℕ) → i < length words → fault_at (words ++ more) i ≡ fault_at words i

@@ -9,7 +9,7 @@ use Rattle.std.proofs.lemmas.List.FromFn.{get_or-map-range_with_len, length-rang
 use Rattle.dc_spec.specs.Bytes.{short_at}
 use Rattle.dc_spec.specs.Values.{word_limbs}
 use Rattle.dc_spec.specs.Entries.{IsMessage}
-use Rattle.dc_station_rules.specs.Bursts.{fragment_count, burst_bytes, fragment, fragments, word_at, carried}
+use Rattle.dc_station_rules.specs.Bursts.{fragment_count, burst_bytes, fragment, fragments, nth_word, carried}
 use Rattle.dc_spec.proofs.GroupLemmas.{length-fifteen, get_or-fifteen}
 
 -- fifteen bytes for each word
@@ -21,7 +21,7 @@ length-carried (word ∷ words) =
     length-append (word_limbs word) (carried words) ∙ (rw (limbs, more) (omega arith))
 
 -- byte r of word q
-pub get_or-carried : (words : List (List ℕ)) (q r : ℕ) → r < 15 → get_or (carried words) (15 * q + r) 0 ≡ slice_index (word_at words q) (r + 1)
+pub get_or-carried : (words : List (List ℕ)) (q r : ℕ) → r < 15 → get_or (carried words) (15 * q + r) 0 ≡ slice_index (nth_word words q) (r + 1)
 get_or-carried [] q r lt = refl
 get_or-carried (word ∷ words) zero r lt =
     let limbs : length (word_limbs word) ≡ 15 = length-fifteen _ in
@@ -33,7 +33,7 @@ get_or-carried (word ∷ words) (suc q) r lt =
     rw place (get_or-append-add (word_limbs word) (carried words) (15 * q + r) 0 ∙ get_or-carried words q r lt)
 
 -- any byte, by the word that it lies in
-pub byte-carried : (words : List (List ℕ)) (k : ℕ) → get_or (carried words) k 0 ≡ slice_index (word_at words (k / 15)) (k % 15 + 1)
+pub byte-carried : (words : List (List ℕ)) (k : ℕ) → get_or (carried words) k 0 ≡ slice_index (nth_word words (k / 15)) (k % 15 + 1)
 byte-carried words k = ap (λ p. get_or (carried words) p 0) (sym (div-add-mod k 15)) ∙ get_or-carried words (k / 15) (k % 15) (mod-lt k (omega arith))
 
 -- how many fragments a message of so many bytes has: just enough
@@ -55,7 +55,7 @@ length-burst_bytes message =
     length-append (to_be_bytes w16 (length message)) _ ∙ ap (λ n. 2 + n) (length-append message _) ∙ (rw zeros (omega arith))
 
 -- a fragment's symbols
-pub word_at-fragments : (message : List ℕ) (i : ℕ) → i < fragment_count (length message) → word_at (fragments message) i ≡ fragment message i
+pub word_at-fragments : (message : List ℕ) (i : ℕ) → i < fragment_count (length message) → nth_word (fragments message) i ≡ fragment message i
 unfolding fragments
 word_at-fragments message i lt = get_or-map-range_with_len (fragment message) 0 (fragment_count (length message)) i i [] lt (omega arith)
 

@@ -3,8 +3,8 @@ use Rattle.std.proofs.Common.{◌≡◌, ℕ, zero, suc, ◌+◌, ◌-◌, ◌*�
 use Rattle.std.specs.Option.{option_or}
 use Rattle.std.proofs.lemmas.Option.{none-some}
 use Rattle.dc_spec.specs.Values.{fifteen}
-use Rattle.dc_spec.specs.Groups.{Group, limb, counted, high_limb, group_of, rest_of, unfit_limb, minus}
-use Rattle.dc_station_rules.specs.Epochs.{EpochFault, Tree, unsplit, alike, parts, mean_of, split_at, answered, with_left, with_right, put, current}
+use Rattle.dc_spec.specs.Groups.{Group, limb, counted, high_limb, group_of, group_rest, unfit_limb, minus}
+use Rattle.dc_station_rules.specs.Epochs.{EpochFault, Tree, unsplit, equal_values, parts, mean_of, two_parts, split_by, with_left, with_right, put, current}
 use Rattle.dc_station_rules.specs.Resolving.{Parts}
 use Rattle.dc_spec.proofs.GroupLemmas.{first_place-fails, IsGroup, err-ok, ok-inj, group_of-ok, minus-ok, rest-IsGroup, get_or-fifteen}
 use Rattle.dc_station_rules.proofs.Putting.{Takes, takes-append, takes-left, takes-right, closed-small, closed-parts, answer-halves, Answer, was_equal, was_split, answer-of}
@@ -39,7 +39,7 @@ one-fit group is two = first_place-fails (λ i. nat_lt (limb group i) (limb (cou
     (λ i lt. let fits = limb-fits (limb group i) group.count two (is.limbs i lt) in
     or-both _ _ (le-ltb _ _ (subst (λ x. x ≤ limb group i) (sym (limb-one group i lt)) fits.1)) (le-ltb _ _ (subst (λ x. limb group i - x ≤ 255 * (group.count - 1)) (sym (limb-one group i lt)) fits.2)))
 
-one-Parts : (group : Group) → IsGroup group → 2 ≤ group.count → Parts group (one_word group) (counted (one_word group)) (rest_of group (counted (one_word group)))
+one-Parts : (group : Group) → IsGroup group → 2 ≤ group.count → Parts group (one_word group) (counted (one_word group)) (group_rest group (counted (one_word group)))
 unfolding group_of minus one_word one_limb
 one-Parts group is two = record {
   is_part = rw (one-high group is two);
@@ -55,7 +55,7 @@ pub record Closing (t : Tree) : Type 0 where
 
 -- a group of count 2 or more, closed by the word of one of its stations and by words that close the rest
 close-more : (group : Group) (low high : ℕ) → IsGroup group → 2 ≤ group.count
-    → Closing (unsplit (rest_of group (counted (one_word group))) (max low (mean_of group + 1)) high) → Closing (unsplit group low high)
+    → Closing (unsplit (group_rest group (counted (one_word group))) (max low (mean_of group + 1)) high) → Closing (unsplit group low high)
 unfolding one_word
 close-more group low high is two rest =
     let single = closed-small (counted (one_word group)) low (min high (mean_of group)) (omega arith) in
@@ -63,7 +63,7 @@ close-more group low high is two rest =
       words = one_word group ∷ rest.words;
       after = parts (unsplit (counted (one_word group)) low (min high (mean_of group))) rest.after;
       takes = (
-        split_at (mean_of group) low high (counted (one_word group)) (rest_of group (counted (one_word group))),
+        two_parts (mean_of group) low high (counted (one_word group)) (group_rest group (counted (one_word group))),
         answer-halves group _ _ low high (one_word group) two (one-Parts group is two) (omega arith),
         takes-right _ _ rest.after rest.words single rest.takes,
       );
@@ -78,12 +78,12 @@ close-group (suc zero) group low high is e = record { words = []; after = unspli
 close-group (suc (suc count)) group low high is e =
     let two : 2 ≤ group.count = omega arith in
     let split = one-Parts group is two in
-    close-more group low high is two (close-group (suc count) (rest_of group (counted (one_word group))) _ high (rest-IsGroup group _ _ is (minus-ok group _ _ split.is_rest)) (omega arith))
+    close-more group low high is two (close-group (suc count) (group_rest group (counted (one_word group))) _ high (rest-IsGroup group _ _ is (minus-ok group _ _ split.is_rest)) (omega arith))
 
 -- every node of a tree that is not split is a group
 pub AreGroups : Tree → Type 0
 AreGroups (unsplit group low high) = IsGroup group
-AreGroups (alike leaf) = Unit {0}
+AreGroups (equal_values leaf) = Unit {0}
 AreGroups (parts left right) = AreGroups left × AreGroups right
 
 -- a group alone
@@ -95,7 +95,7 @@ alone-AreGroups group low high is = is
 pub close-tree : (t : Tree) → AreGroups t → Closing t
 unfolding AreGroups current
 close-tree (unsplit group low high) is = close-group group.count group low high is refl
-close-tree (alike leaf) is = record { words = []; after = alike leaf; takes = refl; closed = refl }
+close-tree (equal_values leaf) is = record { words = []; after = equal_values leaf; takes = refl; closed = refl }
 close-tree (parts left right) is =
     let one = close-tree left is.0 in
     let other = close-tree right is.1 in
@@ -118,10 +118,10 @@ put-AreGroups : (word : List ℕ) (t next : Tree) → AreGroups t → put word t
 unfolding AreGroups put current
 put-AreGroups word (unsplit group low high) next is e = by_count (nat_lt group.count 2) e
   where
-    by_count : (b : Bool) → cond b None (Some (answered group low high word)) ≡ Some (Ok next) → AreGroups next
+    by_count : (b : Bool) → cond b None (Some (split_by group low high word)) ≡ Some (Ok next) → AreGroups next
     by_count true h = absurd (none-some _ h)
     by_count false h = answer-AreGroups group low high word next is (answer-of group low high word next (some-inj h))
-put-AreGroups word (alike leaf) next is e = absurd (none-some _ e)
+put-AreGroups word (equal_values leaf) next is e = absurd (none-some _ e)
 put-AreGroups word (parts left right) next is e = by_parts (put word left) (put word right) (put-AreGroups word left) (put-AreGroups word right) refl refl e
   where
     by_parts : (a b : Option (Result Tree EpochFault)) → ((n : Tree) → AreGroups left → put word left ≡ Some (Ok n) → AreGroups n) → ((n : Tree) → AreGroups right → put word right ≡ Some (Ok n) → AreGroups n)

@@ -3,7 +3,7 @@ use Rattle.std.proofs.Common.{◌≡◌, ℕ, suc, ◌+◌, ◌≤◌, Bool, tru
 use Rattle.std.specs.Option.{option_or, is_some}
 use Rattle.std.proofs.lemmas.Option.{none-some}
 use Rattle.dc_spec.specs.Groups.{Group, GroupFault, group_of}
-use Rattle.dc_station_rules.specs.Epochs.{leaf_of, EpochFault, Tree, unsplit, alike, parts, answered, with_left, with_right, put, current, come_out, Epoch, unbegun, resolving, void_epoch, judged_root, grown_tree, with_word, with_words, epoch_of, leaves}
+use Rattle.dc_station_rules.specs.Epochs.{leaf_of, EpochFault, Tree, unsplit, equal_values, parts, split_by, with_left, with_right, put, current, come_out, Epoch, unbegun, resolving, void_epoch, root_or_fault, grown_tree, with_word, with_words, epoch_of, leaves}
 use Rattle.dc_station_rules.specs.Laws.{LeavesAreFew}
 use Rattle.dc_spec.proofs.GroupLemmas.{err-ok, ok-inj}
 use Rattle.dc_station_rules.proofs.Putting.{Answer, was_equal, was_split, answer-of}
@@ -12,7 +12,7 @@ use Rattle.dc_spec.proofs.Options.{some-inj}
 -- how many groups of a tree are not split
 groups_in : Tree → ℕ
 groups_in (unsplit group low high) = 1
-groups_in (alike leaf) = 1
+groups_in (equal_values leaf) = 1
 groups_in (parts left right) = groups_in left + groups_in right
 
 -- each leaf is one of them
@@ -23,7 +23,7 @@ out-few (unsplit group low high) = by_count (group.count == 1)
     by_count : (b : Bool) → length (cond b (leaf_of group low high ∷ []) []) ≤ 1
     by_count true = omega arith
     by_count false = omega arith
-out-few (alike leaf) = omega arith
+out-few (equal_values leaf) = omega arith
 out-few (parts left right) = by_open (is_some (current left)) (out-few left) (out-few right)
   where
     by_open : (b : Bool) → length (come_out left) ≤ groups_in left → length (come_out right) ≤ groups_in right → length (cond b (come_out left) (come_out left ++ come_out right)) ≤ groups_in left + groups_in right
@@ -41,10 +41,10 @@ put-few : (word : List ℕ) (t next : Tree) → put word t ≡ Some (Ok next) �
 unfolding put groups_in
 put-few word (unsplit group low high) next e = by_count (nat_lt group.count 2) e
   where
-    by_count : (b : Bool) → cond b None (Some (answered group low high word)) ≡ Some (Ok next) → groups_in next ≤ 2
+    by_count : (b : Bool) → cond b None (Some (split_by group low high word)) ≡ Some (Ok next) → groups_in next ≤ 2
     by_count true h = absurd (none-some _ h)
     by_count false h = answer-few group low high word next (answer-of group low high word next (some-inj h))
-put-few word (alike leaf) next e = absurd (none-some _ e)
+put-few word (equal_values leaf) next e = absurd (none-some _ e)
 put-few word (parts left right) next e = by_parts (put word left) (put word right) refl refl e (put-few word left) (put-few word right)
   where
     by_parts : (a b : Option (Result Tree EpochFault)) → put word left ≡ a → put word right ≡ b → option_or (option_map (with_left right) a) (option_map (with_right left) b) ≡ Some (Ok next)
@@ -62,7 +62,7 @@ Within (resolving tree) count = groups_in tree ≤ count
 Within (void_epoch out fault) count = length out ≤ count
 
 -- one more word, one more group
-root-within : (r : Result Group GroupFault) (count : ℕ) → Within (judged_root r) (count + 1)
+root-within : (r : Result Group GroupFault) (count : ℕ) → Within (root_or_fault r) (count + 1)
 unfolding Within groups_in
 root-within (Ok group) count = omega arith
 root-within (Err fault) count = omega arith

@@ -4,7 +4,7 @@ use Rattle.std.specs.Option.{option_or}
 use Rattle.std.proofs.lemmas.Option.{none-some}
 use Rattle.dc_spec.specs.Values.{word_count}
 use Rattle.dc_spec.specs.Groups.{Group, GroupFault, group_of}
-use Rattle.dc_station_rules.specs.Epochs.{EpochFault, Tree, unsplit, alike, parts, answered, with_left, with_right, put, Epoch, unbegun, resolving, void_epoch, judged_root, grown_tree, with_word, with_words, epoch_of}
+use Rattle.dc_station_rules.specs.Epochs.{EpochFault, Tree, unsplit, equal_values, parts, split_by, with_left, with_right, put, Epoch, unbegun, resolving, void_epoch, root_or_fault, grown_tree, with_word, with_words, epoch_of}
 use Rattle.dc_station_rules.specs.Laws.{HasNoEmptyGroup, OnlyRootsAreEmpty}
 use Rattle.dc_spec.proofs.GroupLemmas.{err-ok, ok-inj, group_of-ok, minus-ok}
 use Rattle.dc_station_rules.proofs.Putting.{Answer, was_equal, was_split, answer-of}
@@ -24,10 +24,10 @@ put-filled : (word : List ℕ) (t next : Tree) → HasNoEmptyGroup t → put wor
 unfolding put
 put-filled word (unsplit group low high) next is e = by_count (nat_lt group.count 2) e
   where
-    by_count : (b : Bool) → cond b None (Some (answered group low high word)) ≡ Some (Ok next) → HasNoEmptyGroup next
+    by_count : (b : Bool) → cond b None (Some (split_by group low high word)) ≡ Some (Ok next) → HasNoEmptyGroup next
     by_count true h = absurd (none-some _ h)
     by_count false h = answer-filled group low high word next is (answer-of group low high word next (some-inj h))
-put-filled word (alike leaf) next is e = absurd (none-some _ e)
+put-filled word (equal_values leaf) next is e = absurd (none-some _ e)
 put-filled word (parts left right) next is e = by_parts (put word left) (put word right) (put-filled word left) (put-filled word right) refl refl e
   where
     by_parts : (a b : Option (Result Tree EpochFault)) → ((n : Tree) → HasNoEmptyGroup left → put word left ≡ Some (Ok n) → HasNoEmptyGroup n) → ((n : Tree) → HasNoEmptyGroup right → put word right ≡ Some (Ok n) → HasNoEmptyGroup n)
@@ -63,11 +63,11 @@ words-filled e [] some = some
 words-filled e (word ∷ words) some = words-filled (with_word e word) words (word-filled e word some)
 
 -- a root of count 1 or more
-root-filled : (root : List ℕ) (r : Result Group GroupFault) → group_of root ≡ r → 1 ≤ word_count root → IsFilled (judged_root r)
+root-filled : (root : List ℕ) (r : Result Group GroupFault) → group_of root ≡ r → 1 ≤ word_count root → IsFilled (root_or_fault r)
 unfolding IsFilled
 root-filled root (Ok group) is some = rw (group_of-ok root group is).0 some
 root-filled root (Err fault) is some = tt
 
 pub only-roots_empty : OnlyRootsAreEmpty
 unfolding epoch_of IsFilled
-only-roots_empty root words tree some is = subst IsFilled is (words-filled (judged_root (group_of root)) words (root-filled root (group_of root) refl some))
+only-roots_empty root words tree some is = subst IsFilled is (words-filled (root_or_fault (group_of root)) words (root-filled root (group_of root) refl some))

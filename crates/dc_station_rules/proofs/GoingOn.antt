@@ -8,10 +8,10 @@ use Rattle.std.proofs.lemmas.Grind.{flat_map-append}
 use Rattle.std.proofs.lemmas.List.{length_push, map-append, get_or_push}
 use Rattle.dc_spec.specs.Values.{word_count}
 use Rattle.dc_spec.specs.Groups.{group_count, group_of}
-use Rattle.dc_station_rules.specs.Bursts.{word_at}
-use Rattle.dc_station_rules.specs.Epochs.{no_group, Tree, answered, put, Ranged, current, Epoch, unbegun, resolving, void_epoch, grown_tree, with_word, with_words, epoch_of, is_over}
+use Rattle.dc_station_rules.specs.Bursts.{nth_word}
+use Rattle.dc_station_rules.specs.Epochs.{no_group, Tree, split_by, put, Ranged, current, Epoch, unbegun, resolving, void_epoch, grown_tree, with_word, with_words, epoch_of, is_over}
 use Rattle.dc_station_rules.specs.Cycles.{Cycle, History, granted, burst_words, cycle_words, history_of}
-use Rattle.dc_station_rules.specs.Grammar.{NotYet, is_burst, is_epoch, IsBurst, AreBursts, fields_of, IsWholeCycle, is_next, IsBegunCycle, IsProperPrefixOfWhole}
+use Rattle.dc_station_rules.specs.Grammar.{NotYet, is_burst, is_epoch, IsBurst, AreBursts, burst_fields, IsWholeCycle, is_all_of_next, IsBegunCycle, IsProperPrefixOfWhole}
 use Rattle.dc_station_rules.proofs.Putting.{put-closed}
 use Rattle.dc_station_rules.proofs.WholeOrVoid.{with_words-append, put-breaks, nil-split}
 use Rattle.dc_station_rules.proofs.MessageBursts.{count-at}
@@ -24,7 +24,7 @@ breaking = 300 ∷ replicate 15 0
 
 -- after it no group of a tree is open, or the epoch is void
 breaks-tree : (tree : Tree) (place : Option Ranged) → current tree ≡ place → is_over (grown_tree tree (put breaking tree)) ≡ true
-unfolding answered group_of
+unfolding split_by group_of
 breaks-tree tree None closed = ap (λ o. is_over (grown_tree tree o)) (put-closed breaking tree closed) ∙ ap is_none closed
 breaks-tree tree (Some place) is = ap (λ o. is_over (grown_tree tree o)) (put-breaks breaking (no_group (group_count 300)) tree place is refl)
 
@@ -40,10 +40,10 @@ unfolding epoch_of
 epoch-ends words = ap is_over (with_words-append unbegun words (breaking ∷ [])) ∙ breaks-epoch (with_words unbegun words)
 
 -- no count of an open burst is above 256
-low-count : (words : List (List ℕ)) → NotYet is_burst words → (i : ℕ) → i < length words → word_count (word_at words i) ≤ 256
+low-count : (words : List (List ℕ)) → NotYet is_burst words → (i : ℕ) → i < length words → word_count (nth_word words i) ≤ 256
 low-count words still i lt =
-    let counts : word_count (word_at words i) + i ≡ word_count (word_at words 0) = count-at words (open-passes words still) i lt in
-    let most : word_count (word_at words 0) ≤ 256 = leb-true (word_count (word_at words 0)) 256 (and_parts (nat_le 1 (word_count (word_at words 0))) (nat_le (word_count (word_at words 0)) 256) (open-passes words still 0 (omega arith)).count).1 in
+    let counts : word_count (nth_word words i) + i ≡ word_count (nth_word words 0) = count-at words (open-passes words still) i lt in
+    let most : word_count (nth_word words 0) ≤ 256 = leb-true (word_count (nth_word words 0)) 256 (and_parts (nat_le 1 (word_count (nth_word words 0))) (nat_le (word_count (nth_word words 0)) 256) (open-passes words still 0 (omega arith)).count).1 in
     omega arith
 
 -- so that word ends a burst
@@ -53,8 +53,8 @@ burst-ends words still = by_test (is_burst (words ++ breaking ∷ [])) refl
     by_test : (b : Bool) → is_burst (words ++ breaking ∷ []) ≡ b → b ≡ true
     by_test true e = refl
     by_test false e =
-        let low : word_count (word_at (words ++ breaking ∷ []) (length words)) ≤ 256 = low-count (words ++ breaking ∷ []) (open-still is_burst words breaking still e) (length words) (omega (arith, length_push words breaking)) in
-        let count : word_count (word_at (words ++ breaking ∷ []) (length words)) ≡ 300 = ap word_count (get_or_push words breaking [] (length words) refl) in
+        let low : word_count (nth_word (words ++ breaking ∷ []) (length words)) ≤ 256 = low-count (words ++ breaking ∷ []) (open-still is_burst words breaking still e) (length words) (omega (arith, length_push words breaking)) in
+        let count : word_count (nth_word (words ++ breaking ∷ []) (length words)) ≡ 300 = ap word_count (get_or_push words breaking [] (length words) refl) in
         absurd (omega arith)
 
 -- a burst of that word alone for each field
@@ -62,7 +62,7 @@ abbrev broken : List ℕ → List (ℕ × List (List ℕ))
 broken [] = []
 broken (field ∷ fields) = (field, breaking ∷ []) ∷ broken fields
 
-broken-fields : (fields : List ℕ) → fields_of (broken fields) ≡ fields
+broken-fields : (fields : List ℕ) → burst_fields (broken fields) ≡ fields
 broken-fields [] = refl
 broken-fields (field ∷ fields) = ap (λ fs. field ∷ fs) (broken-fields fields)
 
@@ -81,10 +81,10 @@ spelled : (bursts more : List (ℕ × List (List ℕ))) (field : ℕ) (since : L
 spelled bursts more field since word rest = ap (λ ws. ws ++ rest) (flat_map-append (λ (b : ℕ × List (List ℕ)). b.1) bursts ((field, since ++ word ∷ []) ∷ more)) ∙ simp append_assoc
 
 -- a begun cycle and what makes it whole, by the fields left
-completed : (cycle : Cycle) (left : List ℕ) → fields_of cycle.bursts ++ left ≡ granted cycle.reservation → AreBursts cycle.bursts → NotYet (is_next left) cycle.since → IsProperPrefixOfWhole (cycle_words cycle)
+completed : (cycle : Cycle) (left : List ℕ) → burst_fields cycle.bursts ++ left ≡ granted cycle.reservation → AreBursts cycle.bursts → NotYet (is_all_of_next left) cycle.since → IsProperPrefixOfWhole (cycle_words cycle)
 completed cycle [] fields are still = record {
   whole = record { reservation = cycle.reservation; bursts = cycle.bursts; since = cycle.since ++ breaking ∷ [] };
-  is_whole = record { fields = sym (append-nil (fields_of cycle.bursts)) ∙ fields; bursts = are; epoch = ends-now is_epoch cycle.since breaking still (epoch-ends cycle.since) };
+  is_whole = record { fields = sym (append-nil (burst_fields cycle.bursts)) ∙ fields; bursts = are; epoch = ends-now is_epoch cycle.since breaking still (epoch-ends cycle.since) };
   next = breaking;
   more = [];
   goes_on = ap (λ ws. cycle.reservation ∷ ws) (sym (append_assoc (burst_words cycle.bursts) cycle.since (breaking ∷ [])));
@@ -92,7 +92,7 @@ completed cycle [] fields are still = record {
 completed cycle (field ∷ left) fields are still = record {
   whole = record { reservation = cycle.reservation; bursts = cycle.bursts ++ (field, cycle.since ++ breaking ∷ []) ∷ broken left; since = breaking ∷ [] };
   is_whole = record {
-    fields = map-append (λ (b : ℕ × List (List ℕ)). b.0) cycle.bursts ((field, cycle.since ++ breaking ∷ []) ∷ broken left) ∙ ap (λ fs. fields_of cycle.bursts ++ field ∷ fs) (broken-fields left) ∙ fields;
+    fields = map-append (λ (b : ℕ × List (List ℕ)). b.0) cycle.bursts ((field, cycle.since ++ breaking ∷ []) ∷ broken left) ∙ ap (λ fs. burst_fields cycle.bursts ++ field ∷ fs) (broken-fields left) ∙ fields;
     bursts = each-append (λ (b : ℕ × List (List ℕ)). IsBurst b.1) cycle.bursts ((field, cycle.since ++ breaking ∷ []) ∷ broken left) are (ends-now is_burst cycle.since breaking still (burst-ends cycle.since still), broken-bursts left);
     epoch = ends-now is_epoch [] breaking (nothing-open []) (epoch-ends []);
   };

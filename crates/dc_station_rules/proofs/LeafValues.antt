@@ -3,7 +3,7 @@ use Rattle.std.proofs.Common.{◌≡◌, ℕ, Bool, true, false, cond, nat_lt, �
 use Rattle.std.specs.Option.{option_or, is_some}
 use Rattle.std.proofs.lemmas.Option.{none-some}
 use Rattle.dc_spec.specs.Groups.{Group, GroupFault, group_of}
-use Rattle.dc_station_rules.specs.Epochs.{Leaf, leaf_of, EpochFault, Tree, unsplit, alike, parts, answered, with_left, with_right, put, current, come_out, Epoch, unbegun, resolving, void_epoch, judged_root, grown_tree, with_words, epoch_of, leaves}
+use Rattle.dc_station_rules.specs.Epochs.{Leaf, leaf_of, EpochFault, Tree, unsplit, equal_values, parts, split_by, with_left, with_right, put, current, come_out, Epoch, unbegun, resolving, void_epoch, root_or_fault, grown_tree, with_words, epoch_of, leaves}
 use Rattle.dc_spec.proofs.GroupLemmas.{err-ok, ok-inj, length-fifteen}
 use Rattle.dc_station_rules.proofs.Putting.{Answer, was_equal, was_split, answer-of}
 use Rattle.dc_spec.proofs.Options.{some-inj}
@@ -20,7 +20,7 @@ both-fifteen (leaf ∷ out) more are others = (are.0, both-fifteen out more are.
 -- a tree whose resolved groups have such leaves
 HasValues : Tree → Type 0
 HasValues (unsplit group low high) = Unit {0}
-HasValues (alike leaf) = length leaf.value ≡ 15
+HasValues (equal_values leaf) = length leaf.value ≡ 15
 HasValues (parts left right) = HasValues left × HasValues right
 
 -- the leaves that came out of it
@@ -31,7 +31,7 @@ out-fifteen (unsplit group low high) are = by_count (group.count == 1)
     by_count : (b : Bool) → HaveFifteen (cond b (leaf_of group low high ∷ []) [])
     by_count true = (length-fifteen _, tt)
     by_count false = tt
-out-fifteen (alike leaf) are = (are, tt)
+out-fifteen (equal_values leaf) are = (are, tt)
 out-fifteen (parts left right) are = by_open (is_some (current left)) (out-fifteen left are.0) (out-fifteen right are.1)
   where
     by_open : (b : Bool) → HaveFifteen (come_out left) → HaveFifteen (come_out right) → HaveFifteen (cond b (come_out left) (come_out left ++ come_out right))
@@ -49,10 +49,10 @@ put-values : (word : List ℕ) (t next : Tree) → HasValues t → put word t �
 unfolding put HasValues
 put-values word (unsplit group low high) next are e = by_count (nat_lt group.count 2) e
   where
-    by_count : (b : Bool) → cond b None (Some (answered group low high word)) ≡ Some (Ok next) → HasValues next
+    by_count : (b : Bool) → cond b None (Some (split_by group low high word)) ≡ Some (Ok next) → HasValues next
     by_count true h = absurd (none-some _ h)
     by_count false h = answer-values group low high word next (answer-of group low high word next (some-inj h))
-put-values word (alike leaf) next are e = absurd (none-some _ e)
+put-values word (equal_values leaf) next are e = absurd (none-some _ e)
 put-values word (parts left right) next are e = by_parts (put word left) (put word right) (λ n. put-values word left n are.0) (λ n. put-values word right n are.1) e
   where
     by_parts : (a b : Option (Result Tree EpochFault)) → ((n : Tree) → a ≡ Some (Ok n) → HasValues n) → ((n : Tree) → b ≡ Some (Ok n) → HasValues n) → option_or (option_map (with_left right) a) (option_map (with_right left) b) ≡ Some (Ok next) → HasValues next
@@ -68,7 +68,7 @@ IsValued unbegun = Unit {0}
 IsValued (resolving tree) = HasValues tree
 IsValued (void_epoch out fault) = HaveFifteen out
 
-root-valued : (r : Result Group GroupFault) → IsValued (judged_root r)
+root-valued : (r : Result Group GroupFault) → IsValued (root_or_fault r)
 unfolding IsValued HasValues
 root-valued (Ok group) = tt
 root-valued (Err fault) = tt
@@ -82,7 +82,7 @@ grown-valued tree word (Some (Err fault)) is are = out-fifteen tree are
 words-valued : (e : Epoch) (words : List (List ℕ)) → IsValued e → IsValued (with_words e words)
 unfolding IsValued
 words-valued e [] is = is
-words-valued unbegun (word ∷ words) is = words-valued (judged_root (group_of word)) words (root-valued (group_of word))
+words-valued unbegun (word ∷ words) is = words-valued (root_or_fault (group_of word)) words (root-valued (group_of word))
 words-valued (resolving tree) (word ∷ words) is = words-valued (grown_tree tree (put word tree)) words (grown-valued tree word (put word tree) refl is)
 words-valued (void_epoch out fault) (word ∷ words) is = words-valued (void_epoch out fault) words is
 

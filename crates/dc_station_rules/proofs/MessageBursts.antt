@@ -8,7 +8,7 @@ use Rattle.dc_spec.specs.Words.{AreWords}
 use Rattle.dc_spec.specs.Bytes.{short_at}
 use Rattle.dc_spec.specs.Values.{word_count}
 use Rattle.dc_spec.specs.Entries.{IsMessage}
-use Rattle.dc_station_rules.specs.Bursts.{IsMessageBurst, fragment_count, burst_bytes, fragment, fragments, BurstFault, word_at, carried, told_length, count_fits, fault_at, burst_faults, goes_on, gave, void_burst, carried_message, judged_burst, burst_of}
+use Rattle.dc_station_rules.specs.Bursts.{IsMessageBurst, fragment_count, burst_bytes, fragment, fragments, BurstFault, nth_word, carried, stated_length, count_fits, fault_at, burst_faults, goes_on, gave, void_burst, carried_message, burst_by_faults, burst_of}
 use Rattle.dc_station_rules.proofs.BurstFaults.{LengthFits, Passes, no-fault, fault_at-append}
 use Rattle.dc_station_rules.proofs.Carried.{length-carried, byte-carried, enough, length-burst_bytes, word_at-fragments, length-fragments, fragment-limb, told-bytes, zero-byte, burst-byte}
 
@@ -19,12 +19,12 @@ some-fragments message is =
     (omega arith, omega arith)
 
 -- the count of a fragment
-fragment-count : (message : List ℕ) (i : ℕ) → i < fragment_count (length message) → word_count (word_at (fragments message) i) ≡ fragment_count (length message) - i
+fragment-count : (message : List ℕ) (i : ℕ) → i < fragment_count (length message) → word_count (nth_word (fragments message) i) ≡ fragment_count (length message) - i
 unfolding fragment
 fragment-count message i lt = ap word_count (word_at-fragments message i lt)
 
 -- the length that the fragments tell
-fragments-tell : (message : List ℕ) → IsMessage message → told_length (fragments message) ≡ length message
+fragments-tell : (message : List ℕ) → IsMessage message → stated_length (fragments message) ≡ length message
 fragments-tell message is =
     let most : length message ≤ 3838 = is.most in
     let some = (some-fragments message is).0 in
@@ -60,12 +60,12 @@ fragment-passes message is i lt = record {
   limbs = λ l few.
       let next : 1 + l ≡ l + 1 = omega arith in
       let byte : get_or (burst_bytes message) (15 * i + l) 0 < 256 = burst-byte message is (15 * i + l) in
-      let same : slice_index (word_at (fragments message) i) (l + 1) ≡ get_or (burst_bytes message) (15 * i + l) 0 = ap (λ w. slice_index w (l + 1)) (word_at-fragments message i lt) ∙ fragment-limb message i l few in
+      let same : slice_index (nth_word (fragments message) i) (l + 1) ≡ get_or (burst_bytes message) (15 * i + l) 0 = ap (λ w. slice_index w (l + 1)) (word_at-fragments message i lt) ∙ fragment-limb message i l few in
       rw (next, same) (omega arith);
   told = fragment-told message is i lt;
   padding = λ one at few.
       let last : fragment_count (length message) - i ≡ 1 = sym (fragment-count message i lt) ∙ one in
-      let tell : told_length (fragments message) ≡ length message = fragments-tell message is in
+      let tell : stated_length (fragments message) ≡ length message = fragments-tell message is in
       let size : length (fragments message) ≡ fragment_count (length message) = length-fragments message in
       let whole : take (i + 1) (fragments message) ≡ fragments message = take_all (i + 1) (fragments message) (omega arith) in
       let place : length message + 2 + at ≡ 2 + (length message + at) = omega arith in
@@ -89,9 +89,9 @@ filter-last h a (suc n) x each last =
     rw here (filter-last h (a + 1) n x (λ i lt. let place : a + suc i ≡ a + 1 + i = omega arith in subst (λ k. h k ≡ None) place (each (suc i) (omega arith))) end)
 
 -- words without a fault
-pub clean-burst : (words : List (List ℕ)) → ((i : ℕ) → i < length words → fault_at words i ≡ None) → burst_of words ≡ judged_burst words []
+pub clean-burst : (words : List (List ℕ)) → ((i : ℕ) → i < length words → fault_at words i ≡ None) → burst_of words ≡ burst_by_faults words []
 unfolding burst_of burst_faults
-clean-burst words each = ap (judged_burst words) (filter-none (fault_at words) 0 (length words) (λ i lt. let place : i ≡ 0 + i = omega arith in subst (λ k. fault_at words k ≡ None) place (each i lt)))
+clean-burst words each = ap (burst_by_faults words) (filter-none (fault_at words) 0 (length words) (λ i lt. let place : i ≡ 0 + i = omega arith in subst (λ k. fault_at words k ≡ None) place (each i lt)))
 
 -- words of which the last breaks a check first
 pub broken-burst : (before : List (List ℕ)) (word : List ℕ) (fault : BurstFault) → ((i : ℕ) → i < length before → fault_at (before ++ word ∷ []) i ≡ None) → fault_at (before ++ word ∷ []) (length before) ≡ Some fault → burst_of (before ++ word ∷ []) ≡ void_burst fault
@@ -104,10 +104,10 @@ broken-burst before word fault each last =
     (let place : length before ≡ 0 + length before = omega arith in subst (λ k. fault_at (before ++ word ∷ []) k ≡ Some fault) place last))
 
 -- words without a fault whose last count is 1, and whose last count is another
-pub clean-ends : (words : List (List ℕ)) → ((i : ℕ) → i < length words → fault_at words i ≡ None) → word_count (word_at words (length words - 1)) ≡ 1 → burst_of words ≡ gave (carried_message words)
+pub clean-ends : (words : List (List ℕ)) → ((i : ℕ) → i < length words → fault_at words i ≡ None) → word_count (nth_word words (length words - 1)) ≡ 1 → burst_of words ≡ gave (carried_message words)
 clean-ends words each one = clean-burst words each ∙ (rw (eq-eqb _ _ one))
 
-pub clean-goes : (words : List (List ℕ)) → ((i : ℕ) → i < length words → fault_at words i ≡ None) → (word_count (word_at words (length words - 1)) ≡ 1 → ⊥) → burst_of words ≡ goes_on
+pub clean-goes : (words : List (List ℕ)) → ((i : ℕ) → i < length words → fault_at words i ≡ None) → (word_count (nth_word words (length words - 1)) ≡ 1 → ⊥) → burst_of words ≡ goes_on
 clean-goes words each other = clean-burst words each ∙ (rw (ne_eqb _ _ other))
 
 -- the bytes that the fragments carry are those of the burst
@@ -131,20 +131,20 @@ pub fragments-give : (message : List ℕ) → IsMessage message → burst_of (fr
 fragments-give message is =
     let some = some-fragments message is in
     let size : length (fragments message) ≡ fragment_count (length message) = length-fragments message in
-    let last : word_count (word_at (fragments message) (length (fragments message) - 1)) ≡ 1 = rw size (fragment-count message (fragment_count (length message) - 1) (omega arith) ∙ omega arith) in
+    let last : word_count (nth_word (fragments message) (length (fragments message) - 1)) ≡ 1 = rw size (fragment-count message (fragment_count (length message) - 1) (omega arith) ∙ omega arith) in
     clean-ends (fragments message) (fragments-clean message is) last ∙ ap gave (fragments-message message is)
 
 -- a proper front of them does not end in a count of 1
-front-last : (front : List (List ℕ)) (word : List ℕ) (rest : List (List ℕ)) (message : List ℕ) → front ++ word ∷ rest ≡ fragments message → word_count (word_at front (length front - 1)) ≡ 1 → ⊥
+front-last : (front : List (List ℕ)) (word : List ℕ) (rest : List (List ℕ)) (message : List ℕ) → front ++ word ∷ rest ≡ fragments message → word_count (nth_word front (length front - 1)) ≡ 1 → ⊥
 front-last [] word rest message is one = absurd (omega arith)
 front-last (f ∷ front) word rest message is one =
     let size : suc (length front) + suc (length rest) ≡ fragment_count (length message) = sym (length-append (f ∷ front) (word ∷ rest)) ∙ ap length is ∙ length-fragments message in
     let place : suc (length front) - 1 ≡ length front = omega arith in
-    let count : word_count (word_at (f ∷ front) (length front)) ≡ fragment_count (length message) - length front =
+    let count : word_count (nth_word (f ∷ front) (length front)) ≡ fragment_count (length message) - length front =
     ap word_count (sym (get_or_append_left (f ∷ front) (word ∷ rest) [] (length front) (omega arith)))
-    ∙ ap (λ ws. word_count (word_at ws (length front))) is
+    ∙ ap (λ ws. word_count (nth_word ws (length front))) is
     ∙ fragment-count message (length front) (omega arith) in
-    let same : word_count (word_at (f ∷ front) (length front)) ≡ 1 = rw place at one in
+    let same : word_count (nth_word (f ∷ front) (length front)) ≡ 1 = rw place at one in
     omega arith
 
 -- a proper front of them goes on
@@ -156,11 +156,11 @@ front-goes front word rest message is =
     (front-last front word rest message is.are_fragments)
 
 -- the count of word i, where the words before it and it pass
-pub count-at : (words : List (List ℕ)) → ((i : ℕ) → i < length words → Passes words i) → (i : ℕ) → i < length words → word_count (word_at words i) + i ≡ word_count (word_at words 0)
+pub count-at : (words : List (List ℕ)) → ((i : ℕ) → i < length words → Passes words i) → (i : ℕ) → i < length words → word_count (nth_word words i) + i ≡ word_count (nth_word words 0)
 count-at words each zero lt = omega arith
 count-at words each (suc i) lt =
-    let before : word_count (word_at words i) + i ≡ word_count (word_at words 0) = count-at words each i (omega arith) in
-    let step : word_count (word_at words (suc i)) + 1 ≡ word_count (word_at words i) = eqb-true _ _ (each (suc i) lt).count in
+    let before : word_count (nth_word words i) + i ≡ word_count (nth_word words 0) = count-at words each i (omega arith) in
+    let step : word_count (nth_word words (suc i)) + 1 ≡ word_count (nth_word words i) = eqb-true _ _ (each (suc i) lt).count in
     omega arith
 
 -- the words of a burst that has its last word
@@ -168,16 +168,16 @@ pub record Whole (words : List (List ℕ)) : Type 0 where
   pub are_words : AreWords words
   pub each : (i : ℕ) → i < length words → Passes words i
   pub some : 0 < length words
-  pub last : word_count (word_at words (length words - 1)) ≡ 1
+  pub last : word_count (nth_word words (length words - 1)) ≡ 1
 
 -- the number of words is the first count, from 1 to 256, and the count that the told length needs
-pub whole-size : (words : List (List ℕ)) → Whole words → (word_count (word_at words 0) ≡ length words) × (length words ≤ 256) × (fragment_count (told_length words) ≡ length words)
+pub whole-size : (words : List (List ℕ)) → Whole words → (word_count (nth_word words 0) ≡ length words) × (length words ≤ 256) × (fragment_count (stated_length words) ≡ length words)
 whole-size words is =
     let some : 0 < length words = is.some in
-    let counts : word_count (word_at words (length words - 1)) + (length words - 1) ≡ word_count (word_at words 0) = count-at words is.each (length words - 1) (omega arith) in
-    let last : word_count (word_at words (length words - 1)) ≡ 1 = is.last in
-    let same : word_count (word_at words 0) ≡ length words = omega arith in
-    let most : word_count (word_at words 0) ≤ 256 = leb-true (word_count (word_at words 0)) 256 (and_parts (nat_le 1 (word_count (word_at words 0))) (nat_le (word_count (word_at words 0)) 256) (is.each 0 some).count).1 in
+    let counts : word_count (nth_word words (length words - 1)) + (length words - 1) ≡ word_count (nth_word words 0) = count-at words is.each (length words - 1) (omega arith) in
+    let last : word_count (nth_word words (length words - 1)) ≡ 1 = is.last in
+    let same : word_count (nth_word words 0) ≡ length words = omega arith in
+    let most : word_count (nth_word words 0) ≤ 256 = leb-true (word_count (nth_word words 0)) 256 (and_parts (nat_le 1 (word_count (nth_word words 0))) (nat_le (word_count (nth_word words 0)) 256) (is.each 0 some).count).1 in
     (same, omega arith, (is.each 0 some).told ∙ same)
 
 -- no words go on
@@ -186,10 +186,10 @@ unfolding burst_of burst_faults
 none_go_on = refl
 
 -- a burst that gave a message
-judged_whole : (words : List (List ℕ)) (faults : List BurstFault) (message : List ℕ) → judged_burst words faults ≡ gave message → (carried_message words ≡ message) × (1 ≤ length words)
+judged_whole : (words : List (List ℕ)) (faults : List BurstFault) (message : List ℕ) → burst_by_faults words faults ≡ gave message → (carried_message words ≡ message) × (1 ≤ length words)
 judged_whole words (fault ∷ faults) message e = absurd cc
 judged_whole [] [] message e = absurd cc
-judged_whole (word ∷ words) [] message e = by_test (word_count (word_at (word ∷ words) (length (word ∷ words) - 1)) == 1) e
+judged_whole (word ∷ words) [] message e = by_test (word_count (nth_word (word ∷ words) (length (word ∷ words) - 1)) == 1) e
   where
     by_test : (b : Bool) → cond b (gave (carried_message (word ∷ words))) goes_on ≡ gave message → (carried_message (word ∷ words) ≡ message) × (1 ≤ length (word ∷ words))
     by_test true e = (cc, omega arith)
@@ -202,4 +202,4 @@ short_message words message e =
     let whole = judged_whole words (burst_faults words) message e in
     let some : 1 ≤ length words = whole.1 in
     let size : length (carried_message words) ≡ length message = ap (λ (m : List ℕ). length m) whole.0 in
-    omega (arith, length-carried words, length-take (told_length words) (drop 2 (carried words)), length-drop 2 (carried words))
+    omega (arith, length-carried words, length-take (stated_length words) (drop 2 (carried words)), length-drop 2 (carried words))

@@ -3,7 +3,7 @@ use Rattle.std.proofs.Common.{◌≡◌, ℕ, ◌+◌, ◌-◌, ◌*◌, ◌≤�
 use Rattle.std.proofs.lemmas.List.{get_or_append_left}
 use Rattle.dc_spec.specs.Words.{IsWord, AreWords}
 use Rattle.dc_spec.specs.Values.{word_count}
-use Rattle.dc_station_rules.specs.Bursts.{fragment_count, IsMessageBurst, BurstFault, word_at, fault_at, Burst, goes_on, gave, void_burst, burst_of, has_ended, carried_message}
+use Rattle.dc_station_rules.specs.Bursts.{fragment_count, IsMessageBurst, BurstFault, nth_word, fault_at, Burst, goes_on, gave, void_burst, burst_of, has_ended, carried_message}
 use Rattle.dc_station_rules.specs.Grammar.{NotYet, is_burst, IsBurst, IsVoidBurst, IsMessageOrVoid}
 use Rattle.dc_station_rules.specs.Laws.{MessagesFit}
 use Rattle.dc_station_rules.proofs.Carried.{enough, length-fragments}
@@ -82,7 +82,7 @@ by-last before word are ended = by_fault (fault_at (before ++ word ∷ []) (leng
         by_place true few = clean i (ltb-true _ _ few)
         by_place false past = let place : length before ≡ i = omega (arith, size, lt, ltb-false _ _ past) in subst (λ k. fault_at (before ++ word ∷ []) k ≡ None) place e
 
-    by_count : fault_at (before ++ word ∷ []) (length before) ≡ None → (b : Bool) → (word_count (word_at (before ++ word ∷ []) (length (before ++ word ∷ []) - 1)) == 1) ≡ b → OneOf (before ++ word ∷ [])
+    by_count : fault_at (before ++ word ∷ []) (length before) ≡ None → (b : Bool) → (word_count (nth_word (before ++ word ∷ []) (length (before ++ word ∷ []) - 1)) == 1) ≡ b → OneOf (before ++ word ∷ [])
     by_count e true one = inl (
       carried_message (before ++ word ∷ []),
       whole-IsMessageBurst (before ++ word ∷ []) (record {
@@ -98,7 +98,7 @@ by-last before word are ended = by_fault (fault_at (before ++ word ∷ []) (leng
     by_fault (Some fault) e =
         let part = some-part before are_before still in
         inr (fault, record { before = before; word = word; is = refl; message = part.message; next = part.next; more = part.more; is_part = part.is_part; breaks = e })
-    by_fault None e = by_count e (word_count (word_at (before ++ word ∷ []) (length (before ++ word ∷ []) - 1)) == 1) refl
+    by_fault None e = by_count e (word_count (nth_word (before ++ word ∷ []) (length (before ++ word ∷ []) - 1)) == 1) refl
 
 -- an ended burst is a message or void
 one-of : (words : List (List ℕ)) → AreWords words → IsBurst words → OneOf words

@@ -4,7 +4,7 @@ use Rattle.std.specs.Option.{option_or, is_some, is_none}
 use Rattle.std.proofs.Math.Seq.{drop-append_seam}
 use Rattle.std.proofs.lemmas.Option.{none-some}
 use Rattle.dc_spec.specs.Groups.{GroupFault, Group, group_of}
-use Rattle.dc_station_rules.specs.Epochs.{Leaf, EpochFault, Tree, unsplit, alike, parts, answered, with_left, with_right, put, current, come_out, Epoch, unbegun, resolving, void_epoch, judged_root, grown_tree, with_word, epoch_of, leaves, leaves_at}
+use Rattle.dc_station_rules.specs.Epochs.{Leaf, EpochFault, Tree, unsplit, equal_values, parts, split_by, with_left, with_right, put, current, come_out, Epoch, unbegun, resolving, void_epoch, root_or_fault, grown_tree, with_word, epoch_of, leaves, leaves_at}
 use Rattle.dc_spec.proofs.GroupLemmas.{err-ok, ok-inj}
 use Rattle.dc_station_rules.proofs.Putting.{none-is, open-same, put-open, out-parts}
 use Rattle.dc_spec.proofs.Options.{some-inj}
@@ -59,10 +59,10 @@ put-adds : (word : List ℕ) (t next : Tree) → put word t ≡ Some (Ok next) �
 unfolding put Adds
 put-adds word (unsplit group low high) next e = by_count (nat_lt group.count 2) refl e
   where
-    by_count : (b : Bool) → nat_lt group.count 2 ≡ b → cond b None (Some (answered group low high word)) ≡ Some (Ok next) → Adds (come_out (unsplit group low high)) (come_out next)
+    by_count : (b : Bool) → nat_lt group.count 2 ≡ b → cond b None (Some (split_by group low high word)) ≡ Some (Ok next) → Adds (come_out (unsplit group low high)) (come_out next)
     by_count true count h = absurd (none-some _ h)
     by_count false count h = (come_out next, ap (λ ls. ls ++ come_out next) (sym (open-out group low high count)))
-put-adds word (alike leaf) next e = absurd (none-some _ e)
+put-adds word (equal_values leaf) next e = absurd (none-some _ e)
 put-adds word (parts left right) next e = by_parts (put word left) (put word right) refl refl e (put-adds word left) (put-adds word right)
   where
     by_parts : (a b : Option (Result Tree EpochFault)) → put word left ≡ a → put word right ≡ b → option_or (option_map (with_left right) a) (option_map (with_right left) b) ≡ Some (Ok next)
@@ -76,9 +76,9 @@ put-adds word (parts left right) next e = by_parts (put word left) (put word rig
     by_parts None None pl pr h one other = absurd (none-some _ h)
 
 -- one more word of an epoch
-root-adds : (r : Result Group GroupFault) → Adds [] (leaves (judged_root r))
+root-adds : (r : Result Group GroupFault) → Adds [] (leaves (root_or_fault r))
 unfolding Adds
-root-adds r = (leaves (judged_root r), refl)
+root-adds r = (leaves (root_or_fault r), refl)
 
 grown-adds : (tree : Tree) (word : List ℕ) (o : Option (Result Tree EpochFault)) → put word tree ≡ o → Adds (come_out tree) (leaves (grown_tree tree o))
 grown-adds tree word None is = adds-none (come_out tree)

@@ -7,7 +7,7 @@ use Rattle.std.proofs.lemmas.List.{drop-drop, drop_at, length-map, length_push, 
 use Rattle.dc_station_rules.specs.Bursts.{burst_of, burst_faults}
 use Rattle.dc_station_rules.specs.Epochs.{epoch_of}
 use Rattle.dc_station_rules.specs.Cycles.{Cycle, History, granted, burst_words, cycle_words, history_words, opened, with_next, with_rest, history_of}
-use Rattle.dc_station_rules.specs.Grammar.{NotYet, EndsWith, is_burst, is_epoch, IsBurst, IsEpoch, AreBursts, fields_of, IsWholeCycle, is_next, IsBegunCycle, IsHistory, IsCyclesInOneWay}
+use Rattle.dc_station_rules.specs.Grammar.{NotYet, EndsWith, is_burst, is_epoch, IsBurst, IsEpoch, AreBursts, burst_fields, IsWholeCycle, is_all_of_next, IsBegunCycle, IsHistory, IsCyclesInOneWay}
 
 -- a begun cycle from its parts
 abbrev begun : List Cycle → List ℕ → List (ℕ × List (List ℕ)) → List (List ℕ) → History
@@ -70,14 +70,14 @@ takes_epoch whole r bursts since word (next ∷ words) fields ended =
 
 -- one more word that does not end what comes next
 goes_on : (whole : List Cycle) (r : List ℕ) (bursts : List (ℕ × List (List ℕ))) (since : List (List ℕ)) (word : List ℕ) (left : List ℕ)
-    → drop (length bursts) (granted r) ≡ left → is_next left (since ++ word ∷ []) ≡ false
+    → drop (length bursts) (granted r) ≡ left → is_all_of_next left (since ++ word ∷ []) ≡ false
     → with_next (begun whole r bursts since) word ≡ begun whole r bursts (since ++ word ∷ [])
 goes_on whole r bursts since word [] fields e = goes_on_epoch whole r bursts since word fields e
 goes_on whole r bursts since word (field ∷ left) fields e = goes_on_burst whole r bursts since word field left fields e
 
 -- words that are not all of what comes next
 takes_part : (whole : List Cycle) (r : List ℕ) (bursts : List (ℕ × List (List ℕ))) (since words : List (List ℕ)) (left : List ℕ)
-    → drop (length bursts) (granted r) ≡ left → NotYet (is_next left) (since ++ words)
+    → drop (length bursts) (granted r) ≡ left → NotYet (is_all_of_next left) (since ++ words)
     → with_rest (begun whole r bursts since) words ≡ begun whole r bursts (since ++ words)
 takes_part whole r bursts since [] left fields open_still = ap (begun whole r bursts) (sym (append-nil since))
 takes_part whole r bursts since (word ∷ words) left fields open_still =
@@ -91,7 +91,7 @@ with_rest-append h [] ys = refl
 with_rest-append h (x ∷ xs) ys = with_rest-append (with_next h x) xs ys
 
 -- no words are all of a burst or of an epoch
-pub nothing_yet : (left : List ℕ) → is_next left [] ≡ false
+pub nothing_yet : (left : List ℕ) → is_all_of_next left [] ≡ false
 unfolding burst_of burst_faults epoch_of
 nothing_yet [] = refl
 nothing_yet (field ∷ left) = refl
@@ -102,20 +102,20 @@ fewer_left bursts b fields left e = rw (length_push bursts b) (sym (drop-drop 1 
 
 -- several bursts in a row
 takes_bursts : (whole : List Cycle) (r : List ℕ) (bursts more : List (ℕ × List (List ℕ))) (rest : List (List ℕ)) (left : List ℕ)
-    → drop (length bursts) (granted r) ≡ fields_of more ++ left → AreBursts more
+    → drop (length bursts) (granted r) ≡ burst_fields more ++ left → AreBursts more
     → with_rest (begun whole r bursts []) (burst_words more ++ rest) ≡ with_rest (begun whole r (bursts ++ more) []) rest
 takes_bursts whole r bursts [] rest left fields are = ap (λ bs. with_rest (begun whole r bs []) rest) (sym (append-nil bursts))
 takes_bursts whole r bursts ((field, []) ∷ more) rest left fields are = absurd (true≢false (sym are.0.ended ∙ nothing_yet (field ∷ [])))
 takes_bursts whole r bursts ((field, word ∷ words) ∷ more) rest left fields are =
     ap (with_rest (begun whole r bursts [])) (append_assoc (word ∷ words) (burst_words more) rest)
     ∙ with_rest-append (begun whole r bursts []) (word ∷ words) (burst_words more ++ rest)
-    ∙ ap (λ h. with_rest h (burst_words more ++ rest)) (takes_burst whole r bursts [] word words field (fields_of more ++ left) fields are.0)
-    ∙ takes_bursts whole r (bursts ++ (field, word ∷ words) ∷ []) more rest left (fewer_left bursts (field, word ∷ words) (granted r) (fields_of more ++ left) fields) are.1
+    ∙ ap (λ h. with_rest h (burst_words more ++ rest)) (takes_burst whole r bursts [] word words field (burst_fields more ++ left) fields are.0)
+    ∙ takes_bursts whole r (bursts ++ (field, word ∷ words) ∷ []) more rest left (fewer_left bursts (field, word ∷ words) (granted r) (burst_fields more ++ left) fields) are.1
     ∙ ap (λ bs. with_rest (begun whole r bs []) rest) (append_assoc bursts ((field, word ∷ words) ∷ []) more)
 
 -- the fields left where these are the first ones
-pub left_over : (bursts : List (ℕ × List (List ℕ))) (fields left : List ℕ) → fields_of bursts ++ left ≡ fields → drop (length bursts) fields ≡ left
-left_over bursts fields left e = rw (← e) (drop_at (fields_of bursts) left (length bursts) (length-map bursts _))
+pub left_over : (bursts : List (ℕ × List (List ℕ))) (fields left : List ℕ) → burst_fields bursts ++ left ≡ fields → drop (length bursts) fields ≡ left
+left_over bursts fields left e = rw (← e) (drop_at (burst_fields bursts) left (length bursts) (length-map bursts _))
 
 -- the words of an epoch after a cycle's bursts
 takes_last : (whole : List Cycle) (r : List ℕ) (bursts : List (ℕ × List (List ℕ))) (since rest : List (List ℕ))
@@ -136,8 +136,8 @@ takes_cycle : (whole : List Cycle) (cycle : Cycle) (rest : List (List ℕ)) → 
 takes_cycle whole cycle rest is =
     ap (λ h. with_rest h ((burst_words cycle.bursts ++ cycle.since) ++ rest)) (opens whole cycle.reservation)
     ∙ ap (with_rest (begun whole cycle.reservation [] [])) (append_assoc (burst_words cycle.bursts) cycle.since rest)
-    ∙ takes_bursts whole cycle.reservation [] cycle.bursts (cycle.since ++ rest) [] (sym is.fields ∙ sym (append-nil (fields_of cycle.bursts))) is.bursts
-    ∙ takes_last whole cycle.reservation cycle.bursts cycle.since rest (left_over cycle.bursts (granted cycle.reservation) [] (append-nil (fields_of cycle.bursts) ∙ is.fields)) is.epoch
+    ∙ takes_bursts whole cycle.reservation [] cycle.bursts (cycle.since ++ rest) [] (sym is.fields ∙ sym (append-nil (burst_fields cycle.bursts))) is.bursts
+    ∙ takes_last whole cycle.reservation cycle.bursts cycle.since rest (left_over cycle.bursts (granted cycle.reservation) [] (append-nil (burst_fields cycle.bursts) ∙ is.fields)) is.epoch
 
 -- whole cycles in a row
 takes_cycles : (whole more : List Cycle) (rest : List (List ℕ)) → AllByRecursion IsWholeCycle more → with_rest (done whole) (flat_map cycle_words more ++ rest) ≡ with_rest (done (whole ++ more)) rest
@@ -193,7 +193,7 @@ open-still test words word open_still e front [] is = ap test (sym (append-nil f
 open-still test words word open_still e front (next ∷ rest) is = let split = split_before words word front next rest is in open_still front split.0 split.1
 
 -- nothing has ended yet where no word is there
-pub nothing-open : (left : List ℕ) → NotYet (is_next left) []
+pub nothing-open : (left : List ℕ) → NotYet (is_all_of_next left) []
 nothing-open left [] rest is = nothing_yet left
 nothing-open left (f ∷ front) rest is = absurd (cons≢nil (sym is))
 
@@ -229,15 +229,15 @@ stepped history next word e is spells = (subst IsHistory (sym e) is, ap history_
 
 -- one more word of a begun cycle, by the fields left and by whether it ends what comes next
 step_begun : (whole : List Cycle) (r : List ℕ) (bursts : List (ℕ × List (List ℕ))) (since : List (List ℕ)) (word : List ℕ) (left : List ℕ)
-    → AllByRecursion IsWholeCycle whole → fields_of bursts ++ left ≡ granted r → AreBursts bursts → NotYet (is_next left) since
-    → (b : Bool) → is_next left (since ++ word ∷ []) ≡ b → Steps (begun whole r bursts since) word
+    → AllByRecursion IsWholeCycle whole → burst_fields bursts ++ left ≡ granted r → AreBursts bursts → NotYet (is_all_of_next left) since
+    → (b : Bool) → is_all_of_next left (since ++ word ∷ []) ≡ b → Steps (begun whole r bursts since) word
 step_begun whole r bursts since word left wholes fields are open_still false e = stepped (begun whole r bursts since) (begun whole r bursts (since ++ word ∷ [])) word
     (goes_on whole r bursts since word left (left_over bursts (granted r) left fields) e)
-    (record { whole = wholes; begun = record { left = left; fields = fields; bursts = are; since = open-still (is_next left) since word open_still e } })
+    (record { whole = wholes; begun = record { left = left; fields = fields; bursts = are; since = open-still (is_all_of_next left) since word open_still e } })
     (since-push whole r bursts since word)
 step_begun whole r bursts since word [] wholes fields are open_still true e = stepped (begun whole r bursts since) (done (whole ++ record { reservation = r; bursts = bursts; since = since ++ word ∷ [] } ∷ [])) word
     (ends_epoch whole r bursts since word (left_over bursts (granted r) [] fields) e)
-    (record { whole = each-push IsWholeCycle whole _ wholes (record { fields = sym (append-nil (fields_of bursts)) ∙ fields; bursts = are; epoch = ends-now is_epoch since word open_still e }); begun = tt })
+    (record { whole = each-push IsWholeCycle whole _ wholes (record { fields = sym (append-nil (burst_fields bursts)) ∙ fields; bursts = are; epoch = ends-now is_epoch since word open_still e }); begun = tt })
     (ap (flat_map cycle_words) (append-nil (whole ++ record { reservation = r; bursts = bursts; since = since ++ word ∷ [] } ∷ [])) ∙ since-push whole r bursts since word)
 step_begun whole r bursts since word (field ∷ left) wholes fields are open_still true e = stepped (begun whole r bursts since) (begun whole r (bursts ++ (field, since ++ word ∷ []) ∷ []) []) word
     (ends_burst whole r bursts since word field left (left_over bursts (granted r) (field ∷ left) fields) e)
@@ -245,7 +245,7 @@ step_begun whole r bursts since word (field ∷ left) wholes fields are open_sti
       whole = wholes;
       begun = record {
         left = left;
-        fields = ap (λ fs. fs ++ left) (map-append (λ (b : ℕ × List (List ℕ)). b.0) bursts ((field, since ++ word ∷ []) ∷ [])) ∙ append_assoc (fields_of bursts) (field ∷ []) left ∙ fields;
+        fields = ap (λ fs. fs ++ left) (map-append (λ (b : ℕ × List (List ℕ)). b.0) bursts ((field, since ++ word ∷ []) ∷ [])) ∙ append_assoc (burst_fields bursts) (field ∷ []) left ∙ fields;
         bursts = each-push (λ (b : ℕ × List (List ℕ)). IsBurst b.1) bursts (field, since ++ word ∷ []) are (ends-now is_burst since word open_still e);
         since = nothing-open left;
       };
@@ -258,7 +258,7 @@ step whole None word wholes is = stepped (done whole) (begun whole word [] []) w
     (opens whole word)
     (record { whole = wholes; begun = record { left = granted word; fields = refl; bursts = tt; since = nothing-open (granted word) } })
     (words-push whole (opened word) ∙ ap (λ cs. flat_map cycle_words cs ++ word ∷ []) (sym (append-nil whole)))
-step whole (Some cycle) word wholes is = step_begun whole cycle.reservation cycle.bursts cycle.since word is.left wholes is.fields is.bursts is.since (is_next is.left (cycle.since ++ word ∷ [])) refl
+step whole (Some cycle) word wholes is = step_begun whole cycle.reservation cycle.bursts cycle.since word is.left wholes is.fields is.bursts is.since (is_all_of_next is.left (cycle.since ++ word ∷ [])) refl
 
 -- more words of any history
 steps : (history : History) (words : List (List ℕ)) → IsHistory history → IsHistory (with_rest history words) × (history_words (with_rest history words) ≡ history_words history ++ words)

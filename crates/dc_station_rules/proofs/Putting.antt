@@ -5,7 +5,7 @@ use Rattle.std.proofs.lemmas.Option.{none-some}
 use Rattle.dc_spec.proofs.Options.{some-inj}
 use Rattle.dc_spec.proofs.GroupLemmas.{err-ok, ok-inj, minus-ok}
 use Rattle.dc_spec.specs.Groups.{Group, GroupFault, SplitFault, group_of, minus, uneven_limb}
-use Rattle.dc_station_rules.specs.Epochs.{Leaf, EpochFault, Tree, unsplit, alike, parts, leaf_of, mean_of, judged_alike, judged_split, judged_part, split_at, answered, with_left, with_right, put, Ranged, current, come_out, resolving, with_words}
+use Rattle.dc_station_rules.specs.Epochs.{Leaf, EpochFault, Tree, unsplit, equal_values, parts, leaf_of, mean_of, equal_or_fault, split_or_fault, split_by_group, two_parts, split_by, with_left, with_right, put, Ranged, current, come_out, resolving, with_words}
 use Rattle.dc_station_rules.specs.Resolving.{Parts, Resolves, empty, single, equal, halves}
 
 -- these words, put into a tree, make it into another
@@ -27,10 +27,10 @@ pub open-same : (word : List ℕ) (t : Tree) → is_none (put word t) ≡ is_non
 unfolding put current
 open-same word (unsplit group low high) = by_count (nat_lt group.count 2)
   where
-    by_count : (b : Bool) → is_none (cond b None (Some (answered group low high word))) ≡ is_none {T = Ranged} (cond b None (Some (record { group = group; low = low; high = high })))
+    by_count : (b : Bool) → is_none (cond b None (Some (split_by group low high word))) ≡ is_none {T = Ranged} (cond b None (Some (record { group = group; low = low; high = high })))
     by_count true = refl
     by_count false = refl
-open-same word (alike leaf) = refl
+open-same word (equal_values leaf) = refl
 open-same word (parts left right) = by_both (put word left) (current left) (put word right) (current right) (open-same word left) (open-same word right)
   where
     by_both : (a : Option (Result Tree EpochFault)) (b : Option Ranged) (c : Option (Result Tree EpochFault)) (d : Option Ranged) → is_none a ≡ is_none b → is_none c ≡ is_none d → is_none (option_or (option_map (with_left right) a) (option_map (with_right left) c)) ≡ is_none (option_or b d)
@@ -88,12 +88,12 @@ unfolding come_out
 out-parts l r a = rw a
 
 -- what a word with the whole count, and what one with less, makes of a group
-answer-equal : (group part rest : Group) (low high : ℕ) (word : List ℕ) → 2 ≤ group.count → Parts group word part rest → part.count ≡ group.count → uneven_limb group ≡ None → put word (unsplit group low high) ≡ Some (Ok (alike (leaf_of group low high)))
-unfolding put answered
+answer-equal : (group part rest : Group) (low high : ℕ) (word : List ℕ) → 2 ≤ group.count → Parts group word part rest → part.count ≡ group.count → uneven_limb group ≡ None → put word (unsplit group low high) ≡ Some (Ok (equal_values (leaf_of group low high)))
+unfolding put split_by
 answer-equal group part rest low high word two is all even = rw (le-ltb group.count 2 two, is.is_part, is.is_rest, eq-eqb part.count group.count all, even)
 
-pub answer-halves : (group part rest : Group) (low high : ℕ) (word : List ℕ) → 2 ≤ group.count → Parts group word part rest → part.count < group.count → put word (unsplit group low high) ≡ Some (Ok (split_at (mean_of group) low high part rest))
-unfolding put answered
+pub answer-halves : (group part rest : Group) (low high : ℕ) (word : List ℕ) → 2 ≤ group.count → Parts group word part rest → part.count < group.count → put word (unsplit group low high) ≡ Some (Ok (two_parts (mean_of group) low high part rest))
+unfolding put split_by
 answer-halves group part rest low high word two is fewer = rw (le-ltb group.count 2 two, is.is_part, is.is_rest, ne_eqb part.count group.count (λ e. omega arith))
 
 -- a group that is closed by itself
@@ -116,8 +116,8 @@ unfolding current come_out
 resolves-closes {low = a} {high = b} (empty {group = g} none) = record { after = unsplit g a b; takes = refl; closed = closed-small g a b (omega arith); leaves = out-empty g a b none }
 resolves-closes {low = a} {high = b} (single {group = g} one) = record { after = unsplit g a b; takes = refl; closed = closed-small g a b (omega arith); leaves = out-single g a b one }
 resolves-closes {low = a} {high = b} (equal {group = g} {part = x} {rest = r} {word = w} two is all even) = record {
-  after = alike (leaf_of g a b);
-  takes = (alike (leaf_of g a b), answer-equal g x r a b w two is all even, refl);
+  after = equal_values (leaf_of g a b);
+  takes = (equal_values (leaf_of g a b), answer-equal g x r a b w two is all even, refl);
   closed = refl;
   leaves = refl;
 }
@@ -127,7 +127,7 @@ resolves-closes {low = a} {high = b} (halves {group = g} {part = x} {rest = r} {
     record {
       after = parts one.after other.after;
       takes = (
-        split_at (mean_of g) a b x r,
+        two_parts (mean_of g) a b x r,
         answer-halves g x r a b w two is fewer,
         takes-append _ (parts one.after (unsplit r (max a (mean_of g + 1)) b)) _ ws vs (takes-left _ one.after _ ws one.takes) (takes-right one.after _ other.after vs one.closed other.takes),
       );
@@ -208,34 +208,34 @@ in-parts l r after (word ∷ words) is closed = in-parts-by l r after is.0 word 
 
 -- what an answer to a group's word is
 pub data Answer (group : Group) (low high : ℕ) (word : List ℕ) (next : Tree) : Type 0 where
-  was_equal : {part rest : Group} → Parts group word part rest → part.count ≡ group.count → uneven_limb group ≡ None → alike (leaf_of group low high) ≡ next → Answer group low high word next
-  was_split : {part rest : Group} → Parts group word part rest → part.count < group.count → split_at (mean_of group) low high part rest ≡ next → Answer group low high word next
+  was_equal : {part rest : Group} → Parts group word part rest → part.count ≡ group.count → uneven_limb group ≡ None → equal_values (leaf_of group low high) ≡ next → Answer group low high word next
+  was_split : {part rest : Group} → Parts group word part rest → part.count < group.count → two_parts (mean_of group) low high part rest ≡ next → Answer group low high word next
 
-pub answer-of : (group : Group) (low high : ℕ) (word : List ℕ) (next : Tree) → answered group low high word ≡ Ok next → Answer group low high word next
-unfolding answered
+pub answer-of : (group : Group) (low high : ℕ) (word : List ℕ) (next : Tree) → split_by group low high word ≡ Ok next → Answer group low high word next
+unfolding split_by
 answer-of group low high word next e = by_part (group_of word) refl e
   where
-    by_even : (part rest : Group) → Parts group word part rest → part.count ≡ group.count → (o : Option ℕ) → uneven_limb group ≡ o → judged_alike group low high o ≡ Ok next → Answer group low high word next
+    by_even : (part rest : Group) → Parts group word part rest → part.count ≡ group.count → (o : Option ℕ) → uneven_limb group ≡ o → equal_or_fault group low high o ≡ Ok next → Answer group low high word next
     by_even part rest is same None even r = was_equal is same even (ok-inj r)
     by_even part rest is same (Some i) even r = absurd (err-ok r)
 
-    by_count : (part rest : Group) → Parts group word part rest → (b : Bool) → (part.count == group.count) ≡ b → cond b (judged_alike group low high (uneven_limb group)) (Ok (split_at (mean_of group) low high part rest)) ≡ Ok next → Answer group low high word next
+    by_count : (part rest : Group) → Parts group word part rest → (b : Bool) → (part.count == group.count) ≡ b → cond b (equal_or_fault group low high (uneven_limb group)) (Ok (two_parts (mean_of group) low high part rest)) ≡ Ok next → Answer group low high word next
     by_count part rest is true same r = by_even part rest is (eqb-true _ _ same) (uneven_limb group) refl r
     by_count part rest is false other r =
         let most : part.count ≤ group.count = (minus-ok group part rest is.is_rest).most_count in
         let differ : part.count ≢ group.count = λ h. true≢false (sym (eq-eqb _ _ h) ∙ other) in
         was_split is (omega arith) (ok-inj r)
 
-    by_rest : (part : Group) → group_of word ≡ Ok part → (q : Result Group SplitFault) → minus group part ≡ q → judged_split group low high part q ≡ Ok next → Answer group low high word next
+    by_rest : (part : Group) → group_of word ≡ Ok part → (q : Result Group SplitFault) → minus group part ≡ q → split_or_fault group low high part q ≡ Ok next → Answer group low high word next
     by_rest part is (Err f) m r = absurd (err-ok r)
     by_rest part is (Ok rest) m r = by_count part rest (record { is_part = is; is_rest = m }) (part.count == group.count) refl r
 
-    by_part : (q : Result Group GroupFault) → group_of word ≡ q → judged_part group low high q ≡ Ok next → Answer group low high word next
+    by_part : (q : Result Group GroupFault) → group_of word ≡ q → split_by_group group low high q ≡ Ok next → Answer group low high word next
     by_part (Err f) g r = absurd (err-ok r)
     by_part (Ok part) g r = by_rest part g (minus group part) refl r
 
 -- what is put at a group of count 2 or more
-pub put-answer : (group : Group) (low high : ℕ) (word : List ℕ) → 2 ≤ group.count → put word (unsplit group low high) ≡ Some (answered group low high word)
+pub put-answer : (group : Group) (low high : ℕ) (word : List ℕ) → 2 ≤ group.count → put word (unsplit group low high) ≡ Some (split_by group low high word)
 unfolding put
 put-answer group low high word two = rw (le-ltb group.count 2 two)
 
@@ -254,10 +254,10 @@ resolves-joined group low high word words first second after l r joined is close
     subst (λ ws. Resolves group low high (word ∷ ws) (come_out after)) (sym joined) (subst (Resolves group low high (word ∷ first ++ second)) (sym (ap come_out is ∙ out-parts l r closed)) res)
 
 -- a value that all sent again
-resolves-equal : (group part rest : Group) (low high : ℕ) (word : List ℕ) (words : List (List ℕ)) (after : Tree) → 2 ≤ group.count → Parts group word part rest → part.count ≡ group.count → uneven_limb group ≡ None → Takes (alike (leaf_of group low high)) words after → Resolves group low high (word ∷ words) (come_out after)
+resolves-equal : (group part rest : Group) (low high : ℕ) (word : List ℕ) (words : List (List ℕ)) (after : Tree) → 2 ≤ group.count → Parts group word part rest → part.count ≡ group.count → uneven_limb group ≡ None → Takes (equal_values (leaf_of group low high)) words after → Resolves group low high (word ∷ words) (come_out after)
 unfolding current come_out
 resolves-equal group part rest low high word words after two is same even takes =
-    let none = closed-none (alike (leaf_of group low high)) after words refl takes in
+    let none = closed-none (equal_values (leaf_of group low high)) after words refl takes in
     subst (λ ws. Resolves group low high (word ∷ ws) (come_out after)) (sym none.0) (subst (Resolves group low high (word ∷ [])) (ap come_out none.1) (equal two is same even))
 
 -- the same of a group of count 2 or more, after its own word

@@ -2,7 +2,7 @@
 use Rattle.std.proofs.Common.{◌≡◌, ℕ, zero, suc, ◌+◌, ◌≤◌, Bool, true, false, cond, ◌==◌, List, [], ◌∷◌, ◌++◌, filter, slice_index, refl, arith, ne_eqb, eq-eqb}
 use Rattle.std.specs.List.{range_with_len}
 use Rattle.dc_station_rules.specs.Cycles.{granted, words_for}
-use Rattle.dc_station_rules.specs.Grammar.{fields_of}
+use Rattle.dc_station_rules.specs.Grammar.{burst_fields}
 
 -- numbers that rise, from this one on
 pub Rises : ℕ → List ℕ → Type 0
@@ -41,19 +41,19 @@ rises-past [] x rest low is = is.0
 rises-past (y ∷ xs) x rest low is = let first : low ≤ y = is.0 in let more : y + 1 ≤ x = rises-past xs x rest (y + 1) is.1 in omega arith
 
 -- a field whose burst has not ended has no words among the ended bursts
-pub words_for-none : (bursts : List (ℕ × List (List ℕ))) (field : ℕ) (rest : List ℕ) (low : ℕ) → Rises low (fields_of bursts ++ field ∷ rest) → words_for field bursts ≡ []
+pub words_for-none : (bursts : List (ℕ × List (List ℕ))) (field : ℕ) (rest : List ℕ) (low : ℕ) → Rises low (burst_fields bursts ++ field ∷ rest) → words_for field bursts ≡ []
 unfolding Rises
 words_for-none [] field rest low is = refl
 words_for-none (b ∷ bursts) field rest low is =
-    let past : b.0 + 1 ≤ field = rises-past (fields_of bursts) field rest (b.0 + 1) is.1 in
+    let past : b.0 + 1 ≤ field = rises-past (burst_fields bursts) field rest (b.0 + 1) is.1 in
     rw (ne_eqb b.0 field (λ e. omega arith)) (words_for-none bursts field rest (b.0 + 1) is.1)
 
 -- and the words of its burst, once that has ended
-pub words_for-push : (bursts : List (ℕ × List (List ℕ))) (field : ℕ) (words : List (List ℕ)) (rest : List ℕ) (low : ℕ) → Rises low (fields_of bursts ++ field ∷ rest) → words_for field (bursts ++ (field, words) ∷ []) ≡ words
+pub words_for-push : (bursts : List (ℕ × List (List ℕ))) (field : ℕ) (words : List (List ℕ)) (rest : List ℕ) (low : ℕ) → Rises low (burst_fields bursts ++ field ∷ rest) → words_for field (bursts ++ (field, words) ∷ []) ≡ words
 unfolding Rises
 words_for-push [] field words rest low is = rw (eq-eqb field field refl) refl
 words_for-push (b ∷ bursts) field words rest low is =
-    let past : b.0 + 1 ≤ field = rises-past (fields_of bursts) field rest (b.0 + 1) is.1 in
+    let past : b.0 + 1 ≤ field = rises-past (burst_fields bursts) field rest (b.0 + 1) is.1 in
     rw (ne_eqb b.0 field (λ e. omega arith)) (words_for-push bursts field words rest (b.0 + 1) is.1)
 
 -- the words of another field stay

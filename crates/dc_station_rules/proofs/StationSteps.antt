@@ -8,9 +8,9 @@ use Rattle.dc_spec.specs.Entries.{short, long, Stream}
 pub use Rattle.dc_spec.specs.Entries.{entry_bytes, bytes_in}
 use Rattle.dc_station_rules.specs.Bursts.{burst_of, burst_faults, has_ended, message_of}
 use Rattle.dc_station_rules.specs.Epochs.{Leaf, epoch_of, leaves_at, is_over}
-use Rattle.dc_station_rules.specs.Cycles.{Cycle, granted, opened, fields_left, cycles, with_epoch, continued, joined_by, with_next, history_of, epoch_words, words_for}
+use Rattle.dc_station_rules.specs.Cycles.{Cycle, granted, opened, fields_left, cycles, with_epoch, continued, next_history, with_next, history_of, epoch_words, words_for}
 use Rattle.dc_station_rules.specs.Stations.{burst_entries, cycle_leaves, leaf_entry, cycle_log, log_of, marked, gave_message, first_long, longs_sent, is_leaf_of, first_short, shorts_sent, left_by, left_after, sent_over, sent_of}
-use Rattle.dc_station_rules.specs.Grammar.{fields_of, is_next, IsBegunCycle}
+use Rattle.dc_station_rules.specs.Grammar.{burst_fields, is_all_of_next, IsBegunCycle}
 use Rattle.dc_station_rules.proofs.OneWay.{left_over, fewer_left, cycles_in_one_way}
 use Rattle.dc_station_rules.proofs.Pushes.{history_of-push}
 use Rattle.dc_station_rules.proofs.MoreLeaves.{leaves-push}
@@ -46,22 +46,22 @@ begun-parts : (words : List (List ℕ)) (cycle : Cycle) → (history_of words).b
 begun-parts words cycle begun = subst (λ (b : Option Cycle). IfSome b IsBegunCycle) begun (cycles_in_one_way words).is_history.begun
 
 -- what a begun cycle has left are the granted fields after those of its bursts
-granted-parts : (words : List (List ℕ)) (cycle : Cycle) → (history_of words).begun ≡ Some cycle → fields_of cycle.bursts ++ fields_left cycle ≡ granted cycle.reservation
+granted-parts : (words : List (List ℕ)) (cycle : Cycle) → (history_of words).begun ≡ Some cycle → burst_fields cycle.bursts ++ fields_left cycle ≡ granted cycle.reservation
 granted-parts words cycle begun =
     let parts = begun-parts words cycle begun in
-    ap (λ left. fields_of cycle.bursts ++ left) (left_over cycle.bursts (granted cycle.reservation) parts.left parts.fields) ∙ parts.fields
+    ap (λ left. burst_fields cycle.bursts ++ left) (left_over cycle.bursts (granted cycle.reservation) parts.left parts.fields) ∙ parts.fields
 
 -- so the field of its next burst is none of theirs
-next-rises : (words : List (List ℕ)) (cycle : Cycle) (field : ℕ) (fields : List ℕ) → (history_of words).begun ≡ Some cycle → fields_left cycle ≡ field ∷ fields → Rises 0 (fields_of cycle.bursts ++ field ∷ fields)
+next-rises : (words : List (List ℕ)) (cycle : Cycle) (field : ℕ) (fields : List ℕ) → (history_of words).begun ≡ Some cycle → fields_left cycle ≡ field ∷ fields → Rises 0 (burst_fields cycle.bursts ++ field ∷ fields)
 next-rises words cycle field fields begun left =
-    subst (Rises 0) (sym (granted-parts words cycle begun) ∙ ap (λ fs. fields_of cycle.bursts ++ fs) left) (granted-rise cycle.reservation)
+    subst (Rises 0) (sym (granted-parts words cycle begun) ∙ ap (λ fs. burst_fields cycle.bursts ++ fs) left) (granted-rise cycle.reservation)
 
 -- the history after one more word of a begun cycle
 next-history : (words : List (List ℕ)) (word : List ℕ) (cycle : Cycle) (fields : List ℕ) → (history_of words).begun ≡ Some cycle → fields_left cycle ≡ fields → history_of (words ++ word ∷ []) ≡ continued (history_of words).whole cycle fields word
 unfolding with_next
 next-history words word cycle fields begun left =
     history_of-push words word
-    ∙ ap (λ b. joined_by (history_of words).whole b word) begun
+    ∙ ap (λ b. next_history (history_of words).whole b word) begun
     ∙ ap (λ fs. continued (history_of words).whole cycle fs word) left
 
 -- the cycles of a history with a begun one
@@ -91,7 +91,7 @@ pub record Reserves (stream : Stream) (words : List (List ℕ)) (word : List ℕ
 pub reserves : (stream : Stream) (words : List (List ℕ)) (word : List ℕ) → (history_of words).begun ≡ None → Reserves stream words word
 unfolding with_next
 reserves stream words word none =
-    let next : history_of (words ++ word ∷ []) ≡ record { whole = (history_of words).whole; begun = Some (opened word) } = history_of-push words word ∙ ap (λ b. joined_by (history_of words).whole b word) none in
+    let next : history_of (words ++ word ∷ []) ≡ record { whole = (history_of words).whole; begun = Some (opened word) } = history_of-push words word ∙ ap (λ b. next_history (history_of words).whole b word) none in
     let same : cycles (history_of words) ≡ (history_of words).whole = ap (λ b. (history_of words).whole ++ option_to_list b) none ∙ append-nil _ in
     let is = begun-cycles (words ++ word ∷ []) (history_of words).whole (opened word) next in
     let no_words : epoch_words (opened word) ≡ [] = no-words (fields_left (opened word)) in
@@ -144,7 +144,7 @@ abbrev given : List ℕ → List (List ℕ) → List (List ℕ)
 given message words = if gave_message message (message_of (burst_of words)) then message ∷ [] else []
 
 -- what a cycle sends of messages once a burst has ended
-ended-long : (longs : List (List ℕ)) (mark : Option ℕ) (cycle : Cycle) (field : ℕ) (words : List (List ℕ)) (fields : List ℕ) → Rises 0 (fields_of cycle.bursts ++ field ∷ fields)
+ended-long : (longs : List (List ℕ)) (mark : Option ℕ) (cycle : Cycle) (field : ℕ) (words : List (List ℕ)) (fields : List ℕ) → Rises 0 (burst_fields cycle.bursts ++ field ∷ fields)
     → first_long longs mark (with_ended cycle field words) ≡ first_long longs mark cycle ++ sent_by longs mark field (message_of (burst_of words))
 unfolding burst_of burst_faults
 ended-long [] mark cycle field words fields rises = refl
@@ -254,8 +254,8 @@ pub is_under_way : (words : List (List ℕ)) (cycle : Cycle) → (history_of wor
 is_under_way words cycle begun =
     let parts = begun-parts words cycle begun in
     let left : fields_left cycle ≡ parts.left = left_over cycle.bursts (granted cycle.reservation) parts.left parts.fields in
-    let not_ended : is_next (fields_left cycle) cycle.since ≡ false = ap (λ fs. is_next fs cycle.since) left ∙ parts.since cycle.since [] (sym (append-nil cycle.since)) in
-    record { burst = λ field fields e. ap (λ fs. is_next fs cycle.since) (sym e) ∙ not_ended; epoch = λ e. ap (λ fs. is_next fs cycle.since) (sym e) ∙ not_ended }
+    let not_ended : is_all_of_next (fields_left cycle) cycle.since ≡ false = ap (λ fs. is_all_of_next fs cycle.since) left ∙ parts.since cycle.since [] (sym (append-nil cycle.since)) in
+    record { burst = λ field fields e. ap (λ fs. is_all_of_next fs cycle.since) (sym e) ∙ not_ended; epoch = λ e. ap (λ fs. is_all_of_next fs cycle.since) (sym e) ∙ not_ended }
 
 -- after so many words a log has at most as many entries, and at most fifteen bytes a word
 pub logs_fit : (words : List (List ℕ)) → (length (log_of words) ≤ length words) × (bytes_in (log_of words) ≤ 15 * length words)

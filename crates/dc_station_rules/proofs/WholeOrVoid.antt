@@ -5,8 +5,8 @@ use Rattle.std.specs.Result.{result_err}
 use Rattle.std.specs.Option.{unwrap_or, option_or, is_none}
 use Rattle.std.proofs.lemmas.Option.{none-some}
 use Rattle.dc_spec.specs.Values.{last_number, fifteen}
-use Rattle.dc_spec.specs.Groups.{Group, GroupFault, group_of, counted, first_place}
-use Rattle.dc_station_rules.specs.Epochs.{Leaf, EpochFault, no_group, Tree, unsplit, alike, parts, answered, with_left, with_right, put, Ranged, current, come_out, Epoch, unbegun, resolving, void_epoch, with_word, with_words, epoch_of, leaves, is_over}
+use Rattle.dc_spec.specs.Groups.{Group, GroupFault, group_of, counted, first_limb_where}
+use Rattle.dc_station_rules.specs.Epochs.{Leaf, EpochFault, no_group, Tree, unsplit, equal_values, parts, split_by, with_left, with_right, put, Ranged, current, come_out, Epoch, unbegun, resolving, void_epoch, with_word, with_words, epoch_of, leaves, is_over}
 use Rattle.dc_station_rules.specs.Grammar.{is_epoch, IsEpoch}
 use Rattle.dc_station_rules.specs.Resolving.{empty, IsWholeEpoch, Breaks, IsVoidEpoch, IsWholeOrVoid}
 use Rattle.dc_spec.proofs.GroupLemmas.{err-ok, group_of-ok}
@@ -81,38 +81,38 @@ whole-ends words out whole =
     )
 
 -- an answer that breaks a check is what is put
-pub put-breaks : (word : List ℕ) (fault : EpochFault) (t : Tree) (place : Ranged) → current t ≡ Some place → answered place.group place.low place.high word ≡ Err fault → put word t ≡ Some (Err fault)
+pub put-breaks : (word : List ℕ) (fault : EpochFault) (t : Tree) (place : Ranged) → current t ≡ Some place → split_by place.group place.low place.high word ≡ Err fault → put word t ≡ Some (Err fault)
 unfolding put current
 put-breaks word fault (unsplit group low high) place is broken = by_count (nat_lt group.count 2) is
   where
-    by_count : (b : Bool) → Path (Option Ranged) (cond b None (Some (record { group = group; low = low; high = high }))) (Some place) → Path (Option (Result Tree EpochFault)) (cond b None (Some (answered group low high word))) (Some (Err fault))
+    by_count : (b : Bool) → Path (Option Ranged) (cond b None (Some (record { group = group; low = low; high = high }))) (Some place) → Path (Option (Result Tree EpochFault)) (cond b None (Some (split_by group low high word))) (Some (Err fault))
     by_count true h = absurd (none-some _ h)
-    by_count false h = ap (λ (p : Ranged). Some (answered p.group p.low p.high word)) (some-inj h) ∙ ap Some broken
-put-breaks word fault (alike leaf) place is broken = absurd (none-some _ is)
+    by_count false h = ap (λ (p : Ranged). Some (split_by p.group p.low p.high word)) (some-inj h) ∙ ap Some broken
+put-breaks word fault (equal_values leaf) place is broken = absurd (none-some _ is)
 put-breaks word fault (parts left right) place is broken = by_parts (current left) refl is (put-breaks word fault left place) (put-breaks word fault right place)
   where
     by_parts : (a : Option Ranged) → current left ≡ a → option_or a (current right) ≡ Some place
-        → (current left ≡ Some place → answered place.group place.low place.high word ≡ Err fault → put word left ≡ Some (Err fault))
-        → (current right ≡ Some place → answered place.group place.low place.high word ≡ Err fault → put word right ≡ Some (Err fault))
+        → (current left ≡ Some place → split_by place.group place.low place.high word ≡ Err fault → put word left ≡ Some (Err fault))
+        → (current right ≡ Some place → split_by place.group place.low place.high word ≡ Err fault → put word right ≡ Some (Err fault))
         → Path (Option (Result Tree EpochFault)) (option_or (option_map (with_left right) (put word left)) (option_map (with_right left) (put word right))) (Some (Err fault))
     by_parts (Some p) cl h first second = rw (first (cl ∙ h) broken) refl
     by_parts None cl h first second = rw (put-closed word left cl, second h broken) refl
 
 -- and where an error is put, the current group's answer breaks a check
-breaks-put : (word : List ℕ) (fault : EpochFault) (t : Tree) → put word t ≡ Some (Err fault) → (place : Ranged) × (current t ≡ Some place) × (answered place.group place.low place.high word ≡ Err fault)
+breaks-put : (word : List ℕ) (fault : EpochFault) (t : Tree) → put word t ≡ Some (Err fault) → (place : Ranged) × (current t ≡ Some place) × (split_by place.group place.low place.high word ≡ Err fault)
 unfolding put current
 breaks-put word fault (unsplit group low high) e = by_count (nat_lt group.count 2) refl e
   where
-    by_count : (b : Bool) → nat_lt group.count 2 ≡ b → Path (Option (Result Tree EpochFault)) (cond b None (Some (answered group low high word))) (Some (Err fault)) → (place : Ranged) × (Path (Option Ranged) (cond (nat_lt group.count 2) None (Some (record { group = group; low = low; high = high }))) (Some place)) × (answered place.group place.low place.high word ≡ Err fault)
+    by_count : (b : Bool) → nat_lt group.count 2 ≡ b → Path (Option (Result Tree EpochFault)) (cond b None (Some (split_by group low high word))) (Some (Err fault)) → (place : Ranged) × (Path (Option Ranged) (cond (nat_lt group.count 2) None (Some (record { group = group; low = low; high = high }))) (Some place)) × (split_by place.group place.low place.high word ≡ Err fault)
     by_count true c h = absurd (none-some _ h)
     by_count false c h = (record { group = group; low = low; high = high }, rw c refl, some-inj h)
-breaks-put word fault (alike leaf) e = absurd (none-some _ e)
+breaks-put word fault (equal_values leaf) e = absurd (none-some _ e)
 breaks-put word fault (parts left right) e = by_parts (put word left) (put word right) refl refl e (breaks-put word fault left) (breaks-put word fault right)
   where
     by_parts : (a b : Option (Result Tree EpochFault)) → put word left ≡ a → put word right ≡ b → Path (Option (Result Tree EpochFault)) (option_or (option_map (with_left right) a) (option_map (with_right left) b)) (Some (Err fault))
-        → (put word left ≡ Some (Err fault) → (place : Ranged) × (current left ≡ Some place) × (answered place.group place.low place.high word ≡ Err fault))
-        → (put word right ≡ Some (Err fault) → (place : Ranged) × (current right ≡ Some place) × (answered place.group place.low place.high word ≡ Err fault))
-        → (place : Ranged) × (Path (Option Ranged) (option_or (current left) (current right)) (Some place)) × (answered place.group place.low place.high word ≡ Err fault)
+        → (put word left ≡ Some (Err fault) → (place : Ranged) × (current left ≡ Some place) × (split_by place.group place.low place.high word ≡ Err fault))
+        → (put word right ≡ Some (Err fault) → (place : Ranged) × (current right ≡ Some place) × (split_by place.group place.low place.high word ≡ Err fault))
+        → (place : Ranged) × (Path (Option Ranged) (option_or (current left) (current right)) (Some place)) × (split_by place.group place.low place.high word ≡ Err fault)
     by_parts (Some (Ok l)) b pl pr h first second = absurd (err-ok (sym (some-inj h)))
     by_parts (Some (Err f)) b pl pr h first second =
         let found = first (pl ∙ ap (λ (y : EpochFault). Some (Err y)) (err-same (some-inj h))) in (found.0, rw found.1 refl, found.2)
@@ -206,7 +206,7 @@ OneOf words = ((out : List Leaf) × IsWholeEpoch words out) ⊎ ((out : List Lea
 
 -- an epoch of the zero word alone
 zero-whole : IsWholeEpoch (replicate 16 0 ∷ []) []
-unfolding group_of first_place fifteen
+unfolding group_of first_limb_where fifteen
 zero-whole = record { root = replicate 16 0; group = counted (replicate 16 0); rest = []; begins = refl; is_group = refl; resolves = empty refl }
 
 -- a root that is no group, alone

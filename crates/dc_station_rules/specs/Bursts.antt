@@ -36,25 +36,25 @@ pub data BurstFault : Type 0 where
   burst_padding : ℕ → BurstFault
 
 -- word i of a list
-abbrev pub word_at : List (List ℕ) → ℕ → List ℕ
-word_at words i = slice_index_or words i []
+abbrev pub nth_word : List (List ℕ) → ℕ → List ℕ
+nth_word words i = slice_index_or words i []
 
 -- the bytes that words carry
 abbrev pub carried : List (List ℕ) → List ℕ
 carried words = flat_map word_limbs words
 
 -- the length that the first word tells
-abbrev pub told_length : List (List ℕ) → ℕ
-told_length words = short_at (word_at words 0) 1
+abbrev pub stated_length : List (List ℕ) → ℕ
+stated_length words = short_at (nth_word words 0) 1
 
 -- whether a count stands where it has to: 1 to 256 in the first word, and one less than in the word before in each later one
 abbrev pub count_fits : List (List ℕ) → ℕ → Bool
-count_fits words zero = nat_le 1 (word_count (word_at words 0)) && nat_le (word_count (word_at words 0)) 256
-count_fits words (suc i) = word_count (word_at words (suc i)) + 1 == word_count (word_at words i)
+count_fits words zero = nat_le 1 (word_count (nth_word words 0)) && nat_le (word_count (nth_word words 0)) 256
+count_fits words (suc i) = word_count (nth_word words (suc i)) + 1 == word_count (nth_word words i)
 
 -- word i has a count that does not fit
 abbrev pub count_fault : List (List ℕ) → ℕ → Option BurstFault
-count_fault words i = if count_fits words i then None else Some (burst_count (word_count (word_at words i)))
+count_fault words i = if count_fits words i then None else Some (burst_count (word_count (nth_word words i)))
 
 -- the first limb of a word that is above 255
 abbrev pub limb_fault : List ℕ → Option BurstFault
@@ -62,16 +62,16 @@ limb_fault word = option_map (λ l. burst_limb l (slice_index word l)) (find (λ
 
 -- the first word tells a length that needs another count
 abbrev pub length_fault : List (List ℕ) → ℕ → Option BurstFault
-length_fault words zero = if fragment_count (told_length words) == word_count (word_at words 0) then None else Some (burst_length (told_length words) (word_count (word_at words 0)))
+length_fault words zero = if fragment_count (stated_length words) == word_count (nth_word words 0) then None else Some (burst_length (stated_length words) (word_count (nth_word words 0)))
 length_fault words (suc i) = None
 
 -- the last word, whose count is 1, has a byte after the message that is not 0
 abbrev pub padding_fault : List (List ℕ) → ℕ → Option BurstFault
-padding_fault words i = if word_count (word_at words i) == 1 then option_map burst_padding (find (λ at. not (slice_index (carried (take (i + 1) words)) at == 0)) (range_with_len (told_length words + 2) (15 * (i + 1) - (told_length words + 2)))) else None
+padding_fault words i = if word_count (nth_word words i) == 1 then option_map burst_padding (find (λ at. not (slice_index (carried (take (i + 1) words)) at == 0)) (range_with_len (stated_length words + 2) (15 * (i + 1) - (stated_length words + 2)))) else None
 
 -- the first check that word i breaks
 unfoldable pub fault_at : List (List ℕ) → ℕ → Option BurstFault
-fault_at words i = option_or (count_fault words i) (option_or (limb_fault (word_at words i)) (option_or (length_fault words i) (padding_fault words i)))
+fault_at words i = option_or (count_fault words i) (option_or (limb_fault (nth_word words i)) (option_or (length_fault words i) (padding_fault words i)))
 
 -- all words that break a check, in order, each by the first that it breaks
 unfoldable pub burst_faults : List (List ℕ) → List BurstFault
@@ -85,16 +85,16 @@ pub data Burst : Type 0 where
 
 -- the message that the words of a whole burst carry
 abbrev pub carried_message : List (List ℕ) → List ℕ
-carried_message words = take (told_length words) (drop 2 (carried words))
+carried_message words = take (stated_length words) (drop 2 (carried words))
 
 -- words with these faults: the first fault makes them void, and with none they are whole once the last count is 1
-abbrev pub judged_burst : List (List ℕ) → List BurstFault → Burst
-judged_burst words (fault ∷ faults) = void_burst fault
-judged_burst words [] = if word_count (word_at words (length words - 1)) == 1 then gave (carried_message words) else goes_on
+abbrev pub burst_by_faults : List (List ℕ) → List BurstFault → Burst
+burst_by_faults words (fault ∷ faults) = void_burst fault
+burst_by_faults words [] = if word_count (nth_word words (length words - 1)) == 1 then gave (carried_message words) else goes_on
 
 -- words judged as a burst
 unfoldable pub burst_of : List (List ℕ) → Burst
-burst_of words = judged_burst words (burst_faults words)
+burst_of words = burst_by_faults words (burst_faults words)
 
 -- whether a burst has ended
 abbrev pub has_ended : Burst → Bool

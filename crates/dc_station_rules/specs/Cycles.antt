@@ -58,13 +58,13 @@ continued whole cycle [] word = with_epoch whole cycle (cycle.since ++ word ∷ 
 continued whole cycle (field ∷ fields) word = record { whole = whole; begun = Some (with_burst cycle field (cycle.since ++ word ∷ [])) }
 
 -- whole cycles and what is begun, after one more word
-abbrev pub joined_by : List Cycle → Option Cycle → List ℕ → History
-joined_by whole None word = record { whole = whole; begun = Some (opened word) }
-joined_by whole (Some cycle) word = continued whole cycle (fields_left cycle) word
+abbrev pub next_history : List Cycle → Option Cycle → List ℕ → History
+next_history whole None word = record { whole = whole; begun = Some (opened word) }
+next_history whole (Some cycle) word = continued whole cycle (fields_left cycle) word
 
 -- a history after one more word
 unfoldable pub with_next : History → List ℕ → History
-with_next history word = joined_by history.whole history.begun word
+with_next history word = next_history history.whole history.begun word
 
 -- a history after more words
 abbrev pub with_rest : History → List (List ℕ) → History

@@ -20,7 +20,7 @@ pub data EpochFault : Type 0 where
 -- an epoch's groups: one on its range of numbers, not split; one whose own word showed that all its values are equal; one in two parts, the left before the right
 pub data Tree : Type 0 where
   unsplit : Group → ℕ → ℕ → Tree
-  alike : Leaf → Tree
+  equal_values : Leaf → Tree
   parts : Tree → Tree → Tree
 
 -- the leaf of a group whose values are all equal
@@ -32,27 +32,27 @@ abbrev pub mean_of : Group → ℕ
 mean_of group = total group / group.count
 
 -- a group whose stations all sent again, by the place of its first uneven limb
-abbrev pub judged_alike : Group → ℕ → ℕ → Option ℕ → Result Tree EpochFault
-judged_alike group low high None = Ok (alike (leaf_of group low high))
-judged_alike group low high (Some i) = Err (uneven (i + 1) (limb group i))
+abbrev pub equal_or_fault : Group → ℕ → ℕ → Option ℕ → Result Tree EpochFault
+equal_or_fault group low high None = Ok (equal_values (leaf_of group low high))
+equal_or_fault group low high (Some i) = Err (uneven (i + 1) (limb group i))
 
 -- a group in two parts: the left one ends at the mean, the right one begins after it, and neither leaves the group's own range
-abbrev pub split_at : ℕ → ℕ → ℕ → Group → Group → Tree
-split_at mean low high left right = parts (unsplit left low (min high mean)) (unsplit right (max low (mean + 1)) high)
+abbrev pub two_parts : ℕ → ℕ → ℕ → Group → Group → Tree
+two_parts mean low high left right = parts (unsplit left low (min high mean)) (unsplit right (max low (mean + 1)) high)
 
 -- a group of which this part sent again, where the rest was judged
-abbrev pub judged_split : Group → ℕ → ℕ → Group → Result Group SplitFault → Result Tree EpochFault
-judged_split whole low high part (Err fault) = Err (no_part fault)
-judged_split whole low high part (Ok rest) = if part.count == whole.count then judged_alike whole low high (uneven_limb whole) else Ok (split_at (mean_of whole) low high part rest)
+abbrev pub split_or_fault : Group → ℕ → ℕ → Group → Result Group SplitFault → Result Tree EpochFault
+split_or_fault whole low high part (Err fault) = Err (no_part fault)
+split_or_fault whole low high part (Ok rest) = if part.count == whole.count then equal_or_fault whole low high (uneven_limb whole) else Ok (two_parts (mean_of whole) low high part rest)
 
 -- a group whose word was judged as a group
-abbrev pub judged_part : Group → ℕ → ℕ → Result Group GroupFault → Result Tree EpochFault
-judged_part whole low high (Err fault) = Err (no_group fault)
-judged_part whole low high (Ok part) = judged_split whole low high part (minus whole part)
+abbrev pub split_by_group : Group → ℕ → ℕ → Result Group GroupFault → Result Tree EpochFault
+split_by_group whole low high (Err fault) = Err (no_group fault)
+split_by_group whole low high (Ok part) = split_or_fault whole low high part (minus whole part)
 
 -- what its word makes of a group on its range
-unfoldable pub answered : Group → ℕ → ℕ → List ℕ → Result Tree EpochFault
-answered whole low high word = judged_part whole low high (group_of word)
+unfoldable pub split_by : Group → ℕ → ℕ → List ℕ → Result Tree EpochFault
+split_by whole low high word = split_by_group whole low high (group_of word)
 
 -- a tree with what a word made of its left part
 abbrev pub with_left : Tree → Result Tree EpochFault → Result Tree EpochFault
@@ -66,8 +66,8 @@ with_right left (Ok right) = Ok (parts left right)
 
 -- a word put at the first group that is open: one of count 2 or more that is not split; nothing where none is open
 unfoldable pub put : List ℕ → Tree → Option (Result Tree EpochFault)
-put word (unsplit group low high) = if nat_lt group.count 2 then None else Some (answered group low high word)
-put word (alike leaf) = None
+put word (unsplit group low high) = if nat_lt group.count 2 then None else Some (split_by group low high word)
+put word (equal_values leaf) = None
 put word (parts left right) = option_or (option_map (with_left right) (put word left)) (option_map (with_right left) (put word right))
 
 -- a group on its range of numbers
@@ -79,13 +79,13 @@ pub record Ranged : Type 0 where
 -- the first group that is open, which the next word is for
 unfoldable pub current : Tree → Option Ranged
 current (unsplit group low high) = if nat_lt group.count 2 then None else Some (record { group = group; low = low; high = high })
-current (alike leaf) = None
+current (equal_values leaf) = None
 current (parts left right) = option_or (current left) (current right)
 
 -- the leaves that stand before the first open group
 unfoldable pub come_out : Tree → List Leaf
 come_out (unsplit group low high) = if group.count == 1 then leaf_of group low high ∷ [] else []
-come_out (alike leaf) = leaf ∷ []
+come_out (equal_values leaf) = leaf ∷ []
 come_out (parts left right) = if is_some (current left) then come_out left else come_out left ++ come_out right
 
 -- what words are as an epoch: none yet; a tree; or void, with the leaves that had come out and the first check that broke
@@ -95,9 +95,9 @@ pub data Epoch : Type 0 where
   void_epoch : List Leaf → EpochFault → Epoch
 
 -- the root, which is for all values
-abbrev pub judged_root : Result Group GroupFault → Epoch
-judged_root (Ok group) = resolving (unsplit group 0 last_number)
-judged_root (Err fault) = void_epoch [] (no_group fault)
+abbrev pub root_or_fault : Result Group GroupFault → Epoch
+root_or_fault (Ok group) = resolving (unsplit group 0 last_number)
+root_or_fault (Err fault) = void_epoch [] (no_group fault)
 
 -- a tree after a word was put into it
 abbrev pub grown_tree : Tree → Option (Result Tree EpochFault) → Epoch
@@ -107,7 +107,7 @@ grown_tree tree (Some (Err fault)) = void_epoch (come_out tree) fault
 
 -- an epoch after one more word
 abbrev pub with_word : Epoch → List ℕ → Epoch
-with_word unbegun word = judged_root (group_of word)
+with_word unbegun word = root_or_fault (group_of word)
 with_word (resolving tree) word = grown_tree tree (put word tree)
 with_word (void_epoch leaves fault) word = void_epoch leaves fault
 
@@ -130,22 +130,22 @@ leaves (void_epoch out fault) = out
 abbrev pub leaves_at : List (List ℕ) → List ℕ → List Leaf
 leaves_at words word = drop (length (leaves (epoch_of words))) (leaves (epoch_of (words ++ word ∷ [])))
 
--- what the next word is asked for: the root; values of the current group that are at most this mean; or nothing, since the epoch is whole or void
-pub data Asked : Type 0 where
-  for_root : Asked
-  for_at_most : ℕ → Asked
-  for_nothing : Asked
+-- what the next word is request_after for: the root; values of the current group that are at most this mean; or nothing, since the epoch is whole or void
+pub data Request : Type 0 where
+  for_root : Request
+  for_at_most : ℕ → Request
+  for_nothing : Request
 
--- what is asked for where this is the current group
-abbrev pub asked_of : Option Ranged → Asked
-asked_of None = for_nothing
-asked_of (Some place) = for_at_most (mean_of place.group)
+-- what is request_after for where this is the current group
+abbrev pub request_for : Option Ranged → Request
+request_for None = for_nothing
+request_for (Some place) = for_at_most (mean_of place.group)
 
--- what is asked for after the words of an epoch
-abbrev pub asked : Epoch → Asked
-asked unbegun = for_root
-asked (resolving tree) = asked_of (current tree)
-asked (void_epoch out fault) = for_nothing
+-- what is request_after for after the words of an epoch
+abbrev pub request_after : Epoch → Request
+request_after unbegun = for_root
+request_after (resolving tree) = request_for (current tree)
+request_after (void_epoch out fault) = for_nothing
 
 -- whether a number lies in the range of the current group and is at most its mean
 abbrev pub is_called : ℕ → Option Ranged → Bool

@@ -54,26 +54,26 @@ abbrev pub AreBursts : List (ℕ × List (List ℕ)) → Type 0
 AreBursts bursts = AllByRecursion (λ (b : ℕ × List (List ℕ)). IsBurst b.1) bursts
 
 -- the fields of bursts
-abbrev pub fields_of : List (ℕ × List (List ℕ)) → List ℕ
-fields_of bursts = map (λ (b : ℕ × List (List ℕ)). b.0) bursts
+abbrev pub burst_fields : List (ℕ × List (List ℕ)) → List ℕ
+burst_fields bursts = map (λ (b : ℕ × List (List ℕ)). b.0) bursts
 
 -- a whole cycle: a burst for each granted field in rising order, then an epoch
 pub record IsWholeCycle (cycle : Cycle) : Type 0 where
-  pub fields : fields_of cycle.bursts ≡ granted cycle.reservation
+  pub fields : burst_fields cycle.bursts ≡ granted cycle.reservation
   pub bursts : AreBursts cycle.bursts
   pub epoch : IsEpoch cycle.since
 
 -- whether words are all of what comes next: a burst where fields are left, else an epoch
-abbrev pub is_next : List ℕ → List (List ℕ) → Bool
-is_next [] words = is_epoch words
-is_next (field ∷ fields) words = is_burst words
+abbrev pub is_all_of_next : List ℕ → List (List ℕ) → Bool
+is_all_of_next [] words = is_epoch words
+is_all_of_next (field ∷ fields) words = is_burst words
 
 -- a begun cycle, which is a proper prefix of a whole one: bursts for the first granted fields, then words that are not all of what comes next
 pub record IsBegunCycle (cycle : Cycle) : Type 0 where
   pub left : List ℕ
-  pub fields : fields_of cycle.bursts ++ left ≡ granted cycle.reservation
+  pub fields : burst_fields cycle.bursts ++ left ≡ granted cycle.reservation
   pub bursts : AreBursts cycle.bursts
-  pub since : NotYet (is_next left) cycle.since
+  pub since : NotYet (is_all_of_next left) cycle.since
 
 -- whole cycles, and then nothing or a begun one
 pub record IsHistory (history : History) : Type 0 where

@@ -4,7 +4,7 @@ use Rattle.dc_spec.specs.Entries.{Entry, Stream, bytes_in}
 use Rattle.dc_spec.specs.Values.{number_of, word_count}
 use Rattle.dc_spec.specs.Groups.{total}
 use Rattle.dc_station_rules.specs.Bursts.{IsMessageBurst}
-use Rattle.dc_station_rules.specs.Epochs.{Leaf, Tree, unsplit, alike, parts, resolving, epoch_of, leaves, leaves_at}
+use Rattle.dc_station_rules.specs.Epochs.{Leaf, Tree, unsplit, equal_values, parts, resolving, epoch_of, leaves, leaves_at}
 use Rattle.dc_station_rules.specs.Cycles.{Cycle, cycle_words}
 use Rattle.dc_station_rules.specs.Stations.{log_of, sent_of}
 use Rattle.dc_station_rules.specs.Resolving.{IsWholeEpoch, IsWholeOrVoid}
@@ -45,7 +45,7 @@ LeavesAddUp = (words : List (List ℕ)) (out : List Leaf) → (whole : IsWholeEp
 -- each group of a tree that is not split is of one station at least
 abbrev pub HasNoEmptyGroup : Tree → Type 0
 HasNoEmptyGroup (unsplit group low high) = 1 ≤ group.count
-HasNoEmptyGroup (alike leaf) = 1 ≤ leaf.times
+HasNoEmptyGroup (equal_values leaf) = 1 ≤ leaf.times
 HasNoEmptyGroup (parts left right) = HasNoEmptyGroup left × HasNoEmptyGroup right
 
 -- an epoch whose root has a count of 1 or more never has an empty group

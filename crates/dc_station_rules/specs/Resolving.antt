@@ -2,7 +2,7 @@
 use Rattle.std.specs.Prelude.{◌≡◌, ℕ, ◌+◌, ◌<◌, ◌≤◌, ◌⊎◌, min, max, List, [], ◌∷◌, ◌++◌, Some, None, Ok, Err}
 use Rattle.dc_spec.specs.Values.{last_number}
 use Rattle.dc_spec.specs.Groups.{Group, GroupFault, group_of, minus, uneven_limb}
-use Rattle.dc_station_rules.specs.Epochs.{Leaf, EpochFault, no_group, Tree, leaf_of, mean_of, answered, Ranged, current, come_out, Epoch, unbegun, resolving, void_epoch, epoch_of, leaves}
+use Rattle.dc_station_rules.specs.Epochs.{Leaf, EpochFault, no_group, Tree, leaf_of, mean_of, split_by, Ranged, current, come_out, Epoch, unbegun, resolving, void_epoch, epoch_of, leaves}
 use Rattle.dc_station_rules.specs.Grammar.{IsEpoch}
 
 -- a word is this part of a whole, and this is left of it
@@ -30,7 +30,7 @@ pub record IsWholeEpoch (words : List (List ℕ)) (leaves : List Leaf) : Type 0 
 -- a word breaks a check of an epoch with these words before it: as a root it is no group, and later it is no answer of the current group
 abbrev pub Breaks : Epoch → List ℕ → EpochFault → Type 0
 Breaks unbegun word fault = (why : GroupFault) × (group_of word ≡ Err why) × (fault ≡ no_group why)
-Breaks (resolving tree) word fault = (place : Ranged) × (current tree ≡ Some place) × (answered place.group place.low place.high word ≡ Err fault)
+Breaks (resolving tree) word fault = (place : Ranged) × (current tree ≡ Some place) × (split_by place.group place.low place.high word ≡ Err fault)
 Breaks (void_epoch out why) word fault = ⊥
 
 -- a void epoch: a proper prefix of a whole epoch, and then the first word that breaks a check; its leaves are those that had come out
