@@ -5,3 +5,4 @@ pub mod BinaryLaws
 pub mod Sizes
 pub mod SpelledLines
 pub mod TextLaws
+mod ScriptSizes

@@ -2,13 +2,14 @@
 use Rattle.std.proofs.Common.{◌≡◌, ℕ, ◌+◌, ◌*◌, ◌^◌, ◌<◌, ◌≤◌, zero, suc, List, [], ◌∷◌, ◌++◌, length, All, sym, add-one, ◌∙◌, ap, lit≤, inl, inr, slice_index_or, codes, arith}
 use Rattle.std.specs.List.{flat_map}
 use Rattle.std.specs.Fmt.{decimal}
-use Rattle.std.proofs.Math.Nat.{mul-le-mul, mul-le-mul_right}
+use Rattle.std.proofs.Math.Nat.{mul-le-mul}
 use Rattle.std.proofs.lemmas.Bool.{cases_lt}
 use Rattle.std.proofs.lemmas.List.{length-append}
 use Rattle.std.proofs.lemmas.List.Concat.{length-flat_map}
 use Rattle.std.proofs.lemmas.List.Elements.{All-weaker}
 use Rattle.std.proofs.lemmas.List.Sums.{sum_by-le}
 use Rattle.std.proofs.lemmas.Fmt.{length-decimal-le}
+use Rattle.dc_spec.specs.Limits as limit
 use Rattle.dc_spec.specs.Words.{IsWord}
 use Rattle.dc_spec.specs.Bytes.{symbol_bytes, word_bytes}
 use Rattle.dc_spec.specs.Text.{symbol_text, word_text, line}
@@ -25,12 +26,8 @@ use Rattle.dc_formats.specs.ListFiles.{images_text, AreImages, wanted_text, AreW
 pub length_within : {X : Type 0} (P : X → Type 0) (f : X → List ℕ) (m : ℕ) → ((x : X) → P x → length (f x) ≤ m) → (xs : List X) → All P xs → length (flat_map f xs) ≤ length xs * m
 length_within P f m most xs p = rw (length-flat_map f xs) (sum_by-le (λ x. length (f x)) m xs (All-weaker P (λ x. length (f x) ≤ m) most xs p))
 
--- a whole number of items of at most so many bytes
-counted_within : (n k m : ℕ) → n ≤ k → n * m ≤ k * m
-counted_within n k m le = mul-le-mul_right m le
-
 -- any list of items of at most this length
-each_within : {X : Type 0} (f : X → List ℕ) (m : ℕ) → ((x : X) → length (f x) ≤ m) → (xs : List X) → length (flat_map f xs) ≤ length xs * m
+pub each_within : {X : Type 0} (f : X → List ℕ) (m : ℕ) → ((x : X) → length (f x) ≤ m) → (xs : List X) → length (flat_map f xs) ≤ length xs * m
 each_within f m most xs = rw (length-flat_map f xs) (sum_by-le (λ x. length (f x)) m xs (λ k d lt. most _))
 
 -- a word takes 64 bytes
@@ -41,13 +38,17 @@ word_size w is =
     omega arith
 
 -- a head of eight bytes and at most 2^20 words
-pub transcript_size : (t : Recorded) → IsRecorded t → length (transcript_bytes t) ≤ 67108872
-transcript_size t is =
+pub transcript_short : (t : Recorded) → IsRecorded t → length (transcript_bytes t) ≤ 67108872
+transcript_short t is =
     let words : length (flat_map word_bytes t.words) ≤ length t.words * 64 = length_within IsWord word_bytes 64 word_size t.words is.are_words in
     let count : length t.words ≡ t.rounds * t.stations = is.count in
     let most : t.rounds * t.stations ≤ 4096 * 256 = mul-le-mul is.most_rounds is.most_stations in
     let whole : length (transcript_bytes t) ≡ 8 + length (flat_map word_bytes t.words) = omega arith in
     omega arith
+
+-- so it is within the read limit
+pub transcript_size : (t : Recorded) → IsRecorded t → length (transcript_bytes t) ≤ limit.transcript_limit
+transcript_size t is = let short = transcript_short t is in omega arith
 
 -- a pair's place in the order of all pairs
 abbrev place_of : Pair → ℕ
@@ -93,7 +94,7 @@ spread : (q t : ℕ) → q * (4 + 128 * t) ≡ 4 * q + 4 * (q * (32 * t))
 spread q t = grind arith
 
 -- a head of twelve bytes, at most 65536 pairs and 2^26 symbols
-pub keys_size : (k : Keys) → IsKeys k → length (keys_bytes k) ≤ 269484032
+pub keys_size : (k : Keys) → IsKeys k → length (keys_bytes k) ≤ limit.key_file_limit
 keys_size k is =
     let pairs : length (flat_map pair_bytes k.pairs) ≤ length k.pairs * (4 + 128 * k.words) = length_within (IsPair k.stations k.words) pair_bytes (4 + 128 * k.words) (pair_size k.stations k.words) k.pairs is.are_pairs in
     let count : length k.pairs ≤ 65536 = pair_count k.stations k.words k.pairs is.most_stations is.are_pairs is.rising in
@@ -103,7 +104,7 @@ keys_size k is =
     omega arith
 
 -- a line is one byte longer than its text
-line_size : (t : List ℕ) → length (line t) ≡ length t + 1
+pub line_size : (t : List ℕ) → length (line t) ≡ length t + 1
 line_size t = length-append t (10 ∷ [])
 
 -- a number below 1000 in a line
@@ -113,21 +114,25 @@ number_size n lt =
     rw (line_size (decimal n)) (omega arith)
 
 -- at most 256 lines of at most four bytes
-pub images_size : (xs : List ℕ) → AreImages xs → length (images_text xs) ≤ 4096
+pub images_size : (xs : List ℕ) → AreImages xs → length (images_text xs) ≤ limit.permutation_limit
 images_size xs is =
     let lines : length (images_text xs) ≤ length xs * 4 = length_within (λ i. i < 256) (λ i. line (decimal i)) 4 (λ i lt. number_size i (omega arith)) xs is.numbers in
     let most : length xs ≤ 256 = is.most in
     omega arith
 
--- a word in a line
-word_line_size : (w : List ℕ) → IsWord w → length (line (word_text w)) ≤ 81
-word_line_size w is =
+-- a word in text
+pub word_text_size : (w : List ℕ) → IsWord w → length (word_text w) ≤ 80
+word_text_size w is =
     let each : length (word_text w) ≤ length w * 5 = each_within symbol_text 5 (λ x. lit≤ tt) w in
     let long : length w ≡ 16 = is.sixteen in
-    rw (line_size (word_text w)) (omega arith)
+    omega arith
+
+-- and in a line
+word_line_size : (w : List ℕ) → IsWord w → length (line (word_text w)) ≤ 81
+word_line_size w is = let text = word_text_size w is in rw (line_size (word_text w)) (omega arith)
 
 -- at most 4096 lines of 81 bytes
-pub wanted_size : (xs : List (List ℕ)) → AreWanted xs → length (wanted_text xs) ≤ 1048576
+pub wanted_size : (xs : List (List ℕ)) → AreWanted xs → length (wanted_text xs) ≤ limit.wanted_words_limit
 wanted_size xs is =
     let lines : length (wanted_text xs) ≤ length xs * 81 = length_within IsWord (λ w. line (word_text w)) 81 word_line_size xs is.are_words in
     let most : length xs ≤ 4096 = is.most in
@@ -160,7 +165,7 @@ coin_size c lt =
     omega arith
 
 -- at most 4096 shorts, 256 longs and 4096 coins
-pub stream_size : (s : Stream) → IsStream s → length (stream_text s) ≤ 4194304
+pub stream_size : (s : Stream) → IsStream s → length (stream_text s) ≤ limit.stream_limit
 stream_size s is =
     let shorts : length (flat_map short_line s.shorts) ≤ length s.shorts * 37 = length_within IsValue short_line 37 short_size s.shorts is.are_values in
     let longs : length (flat_map long_line s.longs) ≤ length s.longs * 7682 = length_within IsMessage long_line 7682 long_size s.longs is.are_messages in

@@ -1,5 +1,8 @@
--- Laws of the formats: the bytes tell the content, so that a file has one meaning.
-use Rattle.std.specs.Prelude.{ℕ, ◌≤◌, ◌≡◌, List, length, map, All}
+-- Laws of the formats: no two contents have the same bytes, texts are printable lines, and no file is longer than its read limit.
+use Rattle.std.specs.Prelude.{ℕ, ◌+◌, ◌*◌, ◌<◌, ◌≤◌, ◌≡◌, List, [], length, map, All, false}
+use Rattle.dc_spec.specs.Limits as limit
+use Rattle.dc_spec.specs.Lists.{is_among}
+use Rattle.dc_spec.specs.Scripts.{Delivery, all_sum, each, Turn}
 use Rattle.dc_spec.specs.Recorded.{IsRecorded, transcript_bytes}
 use Rattle.dc_formats.specs.TextFile.{IsTextLine, IsTextFile, text_file, ended, file_lines}
 use Rattle.dc_formats.specs.KeyFile.{IsKeys, keys_bytes}
@@ -10,7 +13,8 @@ use Rattle.dc_formats.specs.Frames.{IsFrame, frames_bytes}
 
 -- two contents within the limits that have the same bytes are the same content
 abbrev pub TellsContent : {C : Type 0} → (C → Type 0) → (C → List ℕ) → Type 0
-TellsContent {C} IsContent spelling = (x y : C) → IsContent x → IsContent y → spelling x ≡ spelling y → x ≡ y
+TellsContent {C} IsContent spelling =
+    (x y : C) → IsContent x → IsContent y → spelling x ≡ spelling y → x ≡ y
 
 -- of the lines of a text file
 abbrev pub TextFilesTellLines : Type 0
@@ -68,25 +72,48 @@ WantedWordsAreText = IsText AreWanted wanted_text
 abbrev pub IsWithin : {C : Type 0} → ℕ → (C → Type 0) → (C → List ℕ) → Type 0
 IsWithin {C} limit IsContent spelling = (x : C) → IsContent x → length (spelling x) ≤ limit
 
--- the longest transcript: a head of 8 bytes and 2^20 words
+-- the longest transcript has a head of 8 bytes and a word of 64 for each round and station
+abbrev pub TranscriptsAreShort : Type 0
+TranscriptsAreShort = IsWithin (8 + 64 * (limit.most_words * limit.most_stations)) IsRecorded transcript_bytes
+
+-- transcripts are within their read limit
 abbrev pub TranscriptsAreWithin : Type 0
-TranscriptsAreWithin = IsWithin 67108872 IsRecorded transcript_bytes
+TranscriptsAreWithin = IsWithin limit.transcript_limit IsRecorded transcript_bytes
 
--- the read limit of key files
+-- and key files
 abbrev pub KeyFilesAreWithin : Type 0
-KeyFilesAreWithin = IsWithin 269484032 IsKeys keys_bytes
+KeyFilesAreWithin = IsWithin limit.key_file_limit IsKeys keys_bytes
 
--- the read limit of streams
+-- and streams
 abbrev pub StreamsAreWithin : Type 0
-StreamsAreWithin = IsWithin 4194304 IsStream stream_text
+StreamsAreWithin = IsWithin limit.stream_limit IsStream stream_text
 
--- the read limit of files of images
+-- the words that are delivered to stations, none where all receive the sum
+abbrev pub delivered_words : Delivery → List (ℕ × List ℕ)
+delivered_words all_sum = []
+delivered_words (each dealt) = dealt
+
+-- the stations of words
+abbrev pub stations_of : List (ℕ × List ℕ) → List ℕ
+stations_of words = map (λ w. w.0) words
+
+-- a round that a net can have: its stations are below the limit, and no station both says a word and is delivered one
+pub record FitsNets (turn : Turn) : Type 0 where
+  pub saying : All (λ i. i < limit.most_stations) (stations_of turn.says)
+  pub receiving : All (λ i. i < limit.most_stations) (stations_of (delivered_words turn.delivery))
+  pub apart : All (λ i. is_among (stations_of (delivered_words turn.delivery)) i ≡ false) (stations_of turn.says)
+
+-- and scripts, where a net can have each round
+abbrev pub ScriptsAreWithin : Type 0
+ScriptsAreWithin = (turns : List Turn) → IsScript turns → All FitsNets turns → length (script_text turns) ≤ limit.script_limit
+
+-- and files of images
 abbrev pub ImagesAreWithin : Type 0
-ImagesAreWithin = IsWithin 4096 AreImages images_text
+ImagesAreWithin = IsWithin limit.permutation_limit AreImages images_text
 
--- the read limit of files of wanted words
+-- and files of wanted words
 abbrev pub WantedWordsAreWithin : Type 0
-WantedWordsAreWithin = IsWithin 1048576 AreWanted wanted_text
+WantedWordsAreWithin = IsWithin limit.wanted_words_limit AreWanted wanted_text
 
 -- the lines of a text file are its texts, each with its end
 abbrev pub TextFilesHaveLines : Type 0
@@ -94,4 +121,5 @@ TextFilesHaveLines = (texts : List (List ℕ)) → All IsTextLine texts → file
 
 -- a file whose lines all have their end is the text file of them
 abbrev pub EndedLinesAreFile : Type 0
-EndedLinesAreFile = (bytes : List ℕ) (texts : List (List ℕ)) → file_lines bytes ≡ map ended texts → bytes ≡ text_file texts
+EndedLinesAreFile =
+    (bytes : List ℕ) (texts : List (List ℕ)) → file_lines bytes ≡ map ended texts → bytes ≡ text_file texts

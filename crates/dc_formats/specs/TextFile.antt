@@ -15,18 +15,18 @@ IsTextLine text = All IsPrintable text
 abbrev pub text_file : List (List ℕ) → List ℕ
 text_file texts = flat_map line texts
 
--- the bytes are lines, and nothing stands after the last line's end
+-- the bytes are lines, and nothing follows the end of the last one
 pub record IsTextFile (bytes : List ℕ) : Type 0 where
   pub texts : List (List ℕ)
   pub are_lines : All IsTextLine texts
   pub spelled : bytes ≡ text_file texts
 
--- a line of any file: with its end, or the last one without
+-- a line of any file: with its line feed, or the last one without
 pub data Line : Type 0 where
   ended : List ℕ → Line
   cut_off : List ℕ → Line
 
--- a byte before the first of these lines
+-- lines, with one more byte at the beginning of the first
 abbrev pub begun_with : ℕ → List Line → List Line
 begun_with b [] = cut_off (b ∷ []) ∷ []
 begun_with b (ended text ∷ lines) = ended (b ∷ text) ∷ lines
@@ -37,7 +37,7 @@ abbrev pub file_lines : List ℕ → List Line
 file_lines [] = []
 file_lines (b ∷ bytes) = if b == 10 then ended [] ∷ file_lines bytes else begun_with b (file_lines bytes)
 
--- each number is one that a byte may be
+-- each number is below 256
 abbrev pub AreBytes : List ℕ → Type 0
 AreBytes bytes = All (λ b. b < 256) bytes
 
@@ -45,6 +45,6 @@ AreBytes bytes = All (λ b. b < 256) bytes
 abbrev pub byte_text : ℕ → List ℕ
 byte_text b = hex_digit (b / 16) ∷ hex_digit (b % 16) ∷ []
 
--- two lower-case hexadecimal digits a byte, so thirty for a value
+-- two lower-case hexadecimal digits for each byte, so thirty for a value
 abbrev pub hex_text : List ℕ → List ℕ
 hex_text bytes = flat_map byte_text bytes

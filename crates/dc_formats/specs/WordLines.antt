@@ -12,6 +12,6 @@ abbrev pub pair_word_line : List ℕ → ℕ → ℕ → ℕ → List ℕ → Li
 pair_word_line beginning u v r w = line
     (beginning ++ decimal u ++ codes " " ++ decimal v ++ codes " " ++ decimal r ++ codes " " ++ word_text w)
 
--- of a list with so many items a round, the items of this round
+-- the items of one round, of a list that has so many items for each round
 abbrev pub items_of_round : {A : Type 0} → ℕ → ℕ → List A → List A
 items_of_round count r items = take count (drop (count * r) items)

@@ -1,6 +1,6 @@
 //! Laws of the formats. These functions do nothing: each one's contract is a law that callers get by a call.
 
-ghost use Rattle.dc_formats.specs.Laws.{TextFilesTellLines, TranscriptsTellContent, KeyFilesTellContent, StreamsTellContent, ScriptsTellContent, ImagesTellContent, WantedWordsTellContent, FramesTellContent, StreamsAreText, ScriptsAreText, ImagesAreText, WantedWordsAreText, TranscriptsAreWithin, KeyFilesAreWithin, StreamsAreWithin, ImagesAreWithin, WantedWordsAreWithin, TextFilesHaveLines, EndedLinesAreFile};
+ghost use Rattle.dc_formats.specs.Laws.{TextFilesTellLines, TranscriptsTellContent, KeyFilesTellContent, StreamsTellContent, ScriptsTellContent, ImagesTellContent, WantedWordsTellContent, FramesTellContent, StreamsAreText, ScriptsAreText, ImagesAreText, WantedWordsAreText, TranscriptsAreShort, TranscriptsAreWithin, KeyFilesAreWithin, StreamsAreWithin, ScriptsAreWithin, ImagesAreWithin, WantedWordsAreWithin, TextFilesHaveLines, EndedLinesAreFile};
 
 /// A text file can be cut into lines in one way.
 #[tactic(auto, using(crate::proofs::TextLaws::lines_tell))]
@@ -66,12 +66,15 @@ pub fn spelled_texts_are_text_files()
     ensures wanted_words { WantedWordsAreText }
 {}
 
-/// No file of these formats is longer than its read limit; of the transcript the greatest length is told.
-#[tactic(auto, using(crate::proofs::Sizes::transcript_size, crate::proofs::Sizes::keys_size, crate::proofs::Sizes::stream_size, crate::proofs::Sizes::images_size, crate::proofs::Sizes::wanted_size))]
+/// No file of these formats is longer than its read limit, a script where a net can have its
+/// rounds. A transcript has at most half of its limit and eight bytes.
+#[tactic(auto, using(crate::proofs::Sizes::transcript_size, crate::proofs::Sizes::keys_size, crate::proofs::Sizes::stream_size, crate::proofs::ScriptSizes::script_size, crate::proofs::Sizes::images_size, crate::proofs::Sizes::wanted_size, crate::proofs::Sizes::transcript_short))]
 pub fn spelled_files_are_within_limits()
     ensures transcripts { TranscriptsAreWithin }
     ensures key_files { KeyFilesAreWithin }
     ensures streams { StreamsAreWithin }
+    ensures scripts { ScriptsAreWithin }
     ensures images { ImagesAreWithin }
     ensures wanted_words { WantedWordsAreWithin }
+    ensures short_transcripts { TranscriptsAreShort }
 {}

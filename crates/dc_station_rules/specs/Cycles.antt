@@ -1,4 +1,5 @@
--- Cycles: a session is cycles one after the other. A cycle is a reservation word, then a burst for each field that it grants, in rising order, then an epoch.
+-- Cycles: a session is cycles one after the other. A cycle is a reservation word, then a burst for each field that it grants,
+-- in rising order, then an epoch.
 use Rattle.std.specs.Prelude.{ℕ, List, [], ◌∷◌, ◌++◌, length, drop, filter, slice_index, Option, Some, None, ◌==◌, if◌then◌else◌}
 use Rattle.std.specs.List.{range_with_len, flat_map}
 use Rattle.std.specs.Option.{option_to_list}
@@ -9,7 +10,8 @@ use Rattle.dc_station_rules.specs.Epochs.{epoch_of, is_over}
 unfoldable pub granted : List ℕ → List ℕ
 granted word = filter (λ field. slice_index word field == 1) (range_with_len 0 16)
 
--- a cycle, whole or only begun: its reservation word, each ended burst with its field, and the words since then, which are those of the next burst, or of the epoch where each granted field has had its burst
+-- a cycle, whole or only begun: its reservation word; each burst that has ended, with its field; and the words since then,
+-- which are those of the next burst, or of the epoch where each granted field has had its burst
 pub record Cycle : Type 0 where
   pub reservation : List ℕ
   pub bursts : List (ℕ × List (List ℕ))
@@ -40,24 +42,30 @@ cycles history = history.whole ++ option_to_list history.begun
 abbrev pub history_words : History → List (List ℕ)
 history_words history = flat_map cycle_words (cycles history)
 
--- a cycle at its beginning
+-- a cycle of which only the reservation word is there
 abbrev pub opened : List ℕ → Cycle
 opened word = record { reservation = word; bursts = []; since = [] }
 
--- a cycle whose next burst, of this field, has these words so far: they are its last burst once they have ended
+-- the cycle when the words since its last ended burst are these, and belong to the burst of this field:
+-- where they end that burst it is one more of the cycle's bursts
 abbrev pub with_burst : Cycle → ℕ → List (List ℕ) → Cycle
-with_burst cycle field words = if has_ended (burst_of words) then record { reservation = cycle.reservation; bursts = cycle.bursts ++ (field, words) ∷ []; since = [] } else record { reservation = cycle.reservation; bursts = cycle.bursts; since = words }
+with_burst cycle field words =
+    if has_ended (burst_of words) then record cycle { bursts = cycle.bursts ++ (field, words) ∷ []; since = [] }
+    else record cycle { since = words }
 
--- whole cycles and one whose epoch has these words so far: it is whole too once the epoch is over
+-- the history when these cycles are whole and the words of the next one's epoch are these:
+-- where they end the epoch that cycle is whole too
 abbrev pub with_epoch : List Cycle → Cycle → List (List ℕ) → History
-with_epoch whole cycle words = if is_over (epoch_of words) then record { whole = whole ++ record { reservation = cycle.reservation; bursts = cycle.bursts; since = words } ∷ []; begun = None } else record { whole = whole; begun = Some (record { reservation = cycle.reservation; bursts = cycle.bursts; since = words }) }
+with_epoch whole cycle words =
+    if is_over (epoch_of words) then record { whole = whole ++ record cycle { since = words } ∷ []; begun = None }
+    else record { whole = whole; begun = Some (record cycle { since = words }) }
 
--- whole cycles and a begun one with these fields left, after one more word
+-- the history after whole cycles, a begun one that has these fields left, and one more word
 abbrev pub continued : List Cycle → Cycle → List ℕ → List ℕ → History
 continued whole cycle [] word = with_epoch whole cycle (cycle.since ++ word ∷ [])
 continued whole cycle (field ∷ fields) word = record { whole = whole; begun = Some (with_burst cycle field (cycle.since ++ word ∷ [])) }
 
--- whole cycles and what is begun, after one more word
+-- the history after whole cycles, the begun one if there is one, and one more word
 abbrev pub next_history : List Cycle → Option Cycle → List ℕ → History
 next_history whole None word = record { whole = whole; begun = Some (opened word) }
 next_history whole (Some cycle) word = continued whole cycle (fields_left cycle) word
@@ -86,7 +94,7 @@ abbrev pub place_among : List ℕ → List (List ℕ) → Place
 place_among [] words = in_epoch words
 place_among (field ∷ fields) words = in_burst field words
 
--- the place where this cycle is begun, or none
+-- the place where this cycle is begun, or where none is
 abbrev pub place_in : Option Cycle → Place
 place_in None = at_reservation
 place_in (Some cycle) = place_among (fields_left cycle) cycle.since
@@ -101,7 +109,7 @@ words_of_epoch at_reservation = []
 words_of_epoch (in_burst field words) = []
 words_of_epoch (in_epoch words) = words
 
--- the words of a cycle's epoch, none before its bursts have ended
+-- the words of a cycle's epoch; there are none before its bursts have ended
 abbrev pub epoch_words : Cycle → List (List ℕ)
 epoch_words cycle = words_of_epoch (place_among (fields_left cycle) cycle.since)
 
