@@ -137,7 +137,7 @@ larger_part : minus three_of_seven (counted (two_ends 4 7)) ≡ Err (split_count
 unfolding computing
 larger_part = refl
 
--- what is request_after for: a root first, then values up to the mean of the current group, and nothing once the epoch is whole or void
+-- what is asked for: a root first, then values up to the mean of the current group, and nothing once the epoch is whole or void
 asked_in_epoch : map (λ words. request_after (epoch_of words)) ([] ∷ (two_ends 3 7 ∷ []) ∷ (two_ends 3 7 ∷ two_ends 1 1 ∷ []) ∷ (two_ends 3 7 ∷ two_ends 1 1 ∷ two_ends 2 6 ∷ []) ∷ (two_ends 3 7 ∷ zero_word ∷ []) ∷ []) ≡ for_root ∷ for_at_most 2 ∷ for_at_most 3 ∷ for_nothing ∷ for_nothing ∷ []
 unfolding computing
 asked_in_epoch = refl

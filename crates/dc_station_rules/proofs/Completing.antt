@@ -1,12 +1,16 @@
 -- Every tree of groups can be closed: further words split each open group until nothing is left to split.
-use Rattle.std.proofs.Common.{◌≡◌, ℕ, zero, suc, ◌+◌, ◌-◌, ◌*◌, ◌<◌, ◌≤◌, min, max, Bool, true, false, cond, nat_lt, ◌||◌, List, [], ◌∷◌, ◌++◌, Option, Some, None, Result, Ok, Err, option_map, refl, sym, ◌∙◌, subst, arith, le-ltb}
+use Rattle.std.proofs.Common.{◌≡◌, ℕ, zero, suc, ◌+◌, ◌-◌, ◌*◌, ◌<◌, ◌≤◌, min, max, Bool, true, false, cond, nat_lt, ◌||◌, List, [], ◌∷◌, ◌++◌, Option, Some, None, Result, Ok, Err, option_map, refl, sym, ◌∙◌, subst, arith, le-ltb, get_or, lit≤, inl, inr}
+use Rattle.std.proofs.lemmas.Bool.{cases_lt}
+use Rattle.std.proofs.lemmas.List.{get_or_past}
+use Rattle.std.proofs.lemmas.List.Elements.{All-nil, All-cons, All-append}
+use Rattle.dc_spec.specs.Words.{IsWord, AreWords}
 use Rattle.std.specs.Option.{option_or}
 use Rattle.std.proofs.lemmas.Option.{none-some}
 use Rattle.dc_spec.specs.Values.{fifteen}
 use Rattle.dc_spec.specs.Groups.{Group, limb, counted, high_limb, group_of, group_rest, unfit_limb, minus}
 use Rattle.dc_station_rules.specs.Epochs.{EpochFault, Tree, unsplit, equal_values, parts, mean_of, two_parts, split_by, with_left, with_right, put, current}
 use Rattle.dc_station_rules.specs.Resolving.{Parts}
-use Rattle.dc_spec.proofs.GroupLemmas.{first_place-fails, IsGroup, err-ok, ok-inj, group_of-ok, minus-ok, rest-IsGroup, get_or-fifteen}
+use Rattle.dc_spec.proofs.GroupLemmas.{first_place-fails, IsGroup, err-ok, ok-inj, group_of-ok, minus-ok, rest-IsGroup, get_or-fifteen, length-fifteen}
 use Rattle.dc_station_rules.proofs.Putting.{Takes, takes-append, takes-left, takes-right, closed-small, closed-parts, answer-halves, Answer, was_equal, was_split, answer-of}
 use Rattle.dc_spec.proofs.Options.{some-inj}
 
@@ -46,9 +50,22 @@ one-Parts group is two = record {
   is_rest = rw (one-fit group is two, le-ltb group.count 1 (omega arith));
 }
 
--- words that close a tree
+-- it is a word of sixteen symbols
+one-IsWord : (group : Group) → IsGroup group → 2 ≤ group.count → IsWord (one_word group)
+unfolding one_word one_limb fifteen
+one-IsWord group is two = record { sixteen = refl; symbols = symbol }
+  where
+    symbol : (l : ℕ) → get_or (one_word group) l 0 < 65537
+    symbol zero = lit≤ tt
+    symbol (suc i) = elim (cases_lt i 15) [
+      | inl lt ↦ (let fits = limb-fits (limb group i) group.count two (is.limbs i lt) in let same = get_or-fifteen (one_limb group) i lt in rw same (omega (arith, fits.0)))
+      | inr le ↦ rw (get_or_past (fifteen (one_limb group)) i 0 (rw (length-fifteen (one_limb group)) le)) (omega arith)
+    ]
+
+-- words of sixteen symbols that close a tree
 pub record Closing (t : Tree) : Type 0 where
   pub words : List (List ℕ)
+  pub are_words : AreWords words
   pub after : Tree
   pub takes : Takes t words after
   pub closed : current after ≡ None
@@ -61,6 +78,7 @@ close-more group low high is two rest =
     let single = closed-small (counted (one_word group)) low (min high (mean_of group)) (omega arith) in
     record {
       words = one_word group ∷ rest.words;
+      are_words = All-cons IsWord (one_word group) rest.words (one-IsWord group is two) rest.are_words;
       after = parts (unsplit (counted (one_word group)) low (min high (mean_of group))) rest.after;
       takes = (
         two_parts (mean_of group) low high (counted (one_word group)) (group_rest group (counted (one_word group))),
@@ -73,8 +91,8 @@ close-more group low high is two rest =
 -- words that close a group, by its count
 close-group : (count : ℕ) (group : Group) (low high : ℕ) → IsGroup group → group.count ≡ count → Closing (unsplit group low high)
 unfolding one_word
-close-group zero group low high is e = record { words = []; after = unsplit group low high; takes = refl; closed = closed-small group low high (omega arith) }
-close-group (suc zero) group low high is e = record { words = []; after = unsplit group low high; takes = refl; closed = closed-small group low high (omega arith) }
+close-group zero group low high is e = record { words = []; are_words = All-nil IsWord; after = unsplit group low high; takes = refl; closed = closed-small group low high (omega arith) }
+close-group (suc zero) group low high is e = record { words = []; are_words = All-nil IsWord; after = unsplit group low high; takes = refl; closed = closed-small group low high (omega arith) }
 close-group (suc (suc count)) group low high is e =
     let two : 2 ≤ group.count = omega arith in
     let split = one-Parts group is two in
@@ -95,12 +113,13 @@ alone-AreGroups group low high is = is
 pub close-tree : (t : Tree) → AreGroups t → Closing t
 unfolding AreGroups current
 close-tree (unsplit group low high) is = close-group group.count group low high is refl
-close-tree (equal_values leaf) is = record { words = []; after = equal_values leaf; takes = refl; closed = refl }
+close-tree (equal_values leaf) is = record { words = []; are_words = All-nil IsWord; after = equal_values leaf; takes = refl; closed = refl }
 close-tree (parts left right) is =
     let one = close-tree left is.0 in
     let other = close-tree right is.1 in
     record {
       words = one.words ++ other.words;
+      are_words = All-append IsWord one.words other.words one.are_words other.are_words;
       after = parts one.after other.after;
       takes = takes-append _ (parts one.after right) _ one.words other.words (takes-left left one.after right one.words one.takes) (takes-right one.after right other.after other.words one.closed other.takes);
       closed = closed-parts one.after other.after one.closed other.closed;

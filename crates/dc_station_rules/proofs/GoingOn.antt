@@ -1,11 +1,14 @@
 -- The words of a begun cycle are a proper prefix of a whole one, and each such prefix is the words of a begun cycle.
-use Rattle.std.proofs.Common.{◌≡◌, ℕ, ◌+◌, ◌<◌, ◌≤◌, Bool, true, false, nat_le, List, [], ◌∷◌, ◌++◌, length, drop, replicate, Option, Some, None, IfSome, option_to_list, refl, sym, ap, ◌∙◌, arith, append_assoc, append-nil, leb-true}
+use Rattle.std.proofs.Common.{◌≡◌, ℕ, ◌+◌, ◌<◌, ◌≤◌, Bool, true, false, nat_le, nat_lt, List, [], ◌∷◌, ◌++◌, length, drop, replicate, Option, Some, None, IfSome, option_to_list, refl, sym, ap, ◌∙◌, arith, append_assoc, append-nil, leb-true, ltb-true, inl, inr}
 use mathlib.Core.List.{cons≢nil}
 use Rattle.std.specs.List.{AllByRecursion, flat_map}
 use Rattle.std.specs.Option.{is_none}
-use Rattle.std.proofs.lemmas.Bool.{and_parts}
+use Rattle.std.proofs.lemmas.Bool.{cases_lt, and_parts}
 use Rattle.std.proofs.lemmas.Grind.{flat_map-append}
-use Rattle.std.proofs.lemmas.List.{length_push, map-append, get_or_push}
+use Rattle.std.proofs.lemmas.List.{length_push, map-append, get_or_push, get_or_past}
+use Rattle.std.proofs.lemmas.List.Elements.{All-nil, All-cons}
+use Rattle.std.proofs.lemmas.List.Sums.{AllPass-from_list_all}
+use Rattle.dc_spec.specs.Words.{IsWord, AreWords}
 use Rattle.dc_spec.specs.Values.{word_count}
 use Rattle.dc_spec.specs.Groups.{group_count, group_of}
 use Rattle.dc_station_rules.specs.Bursts.{nth_word}
@@ -70,6 +73,21 @@ broken-bursts : (fields : List ℕ) → AreBursts (broken fields)
 broken-bursts [] = tt
 broken-bursts (field ∷ fields) = (ends-now is_burst [] breaking (nothing-open (field ∷ [])) (burst-ends [] (nothing-open (field ∷ []))), broken-bursts fields)
 
+-- that word is one of sixteen symbols
+breaking-IsWord : IsWord breaking
+breaking-IsWord = record {
+  sixteen = refl;
+  symbols = λ l. elim (cases_lt l 16) [
+    | inl lt ↦ ltb-true _ _ (AllPass-from_list_all (λ x. nat_lt x 65537) breaking refl l 0 lt)
+    | inr le ↦ rw (get_or_past breaking l 0 le) (omega arith)
+  ];
+}
+
+-- and so are those of such bursts, and of an epoch of that word alone
+broken-words : (fields : List ℕ) → AreWords (burst_words (broken fields) ++ breaking ∷ [])
+broken-words [] = All-cons IsWord breaking [] breaking-IsWord (All-nil IsWord)
+broken-words (field ∷ fields) = All-cons IsWord breaking _ breaking-IsWord (broken-words fields)
+
 -- each item of two lists
 each-append : {A : Type 0} (P : A → Type 0) (xs ys : List A) → AllByRecursion P xs → AllByRecursion P ys → AllByRecursion P (xs ++ ys)
 each-append P [] ys first second = second
@@ -88,6 +106,7 @@ completed cycle [] fields are still = record {
   next = breaking;
   more = [];
   goes_on = ap (λ ws. cycle.reservation ∷ ws) (sym (append_assoc (burst_words cycle.bursts) cycle.since (breaking ∷ [])));
+  are_words = All-cons IsWord breaking [] breaking-IsWord (All-nil IsWord);
 }
 completed cycle (field ∷ left) fields are still = record {
   whole = record { reservation = cycle.reservation; bursts = cycle.bursts ++ (field, cycle.since ++ breaking ∷ []) ∷ broken left; since = breaking ∷ [] };
@@ -99,6 +118,7 @@ completed cycle (field ∷ left) fields are still = record {
   next = breaking;
   more = burst_words (broken left) ++ breaking ∷ [];
   goes_on = ap (λ ws. cycle.reservation ∷ ws) (spelled cycle.bursts (broken left) field cycle.since breaking (breaking ∷ []));
+  are_words = All-cons IsWord breaking _ breaking-IsWord (broken-words left);
 }
 
 -- the words of a begun cycle are a proper prefix of a whole one
@@ -115,8 +135,9 @@ nothing-more first whole rest is_first is_whole same =
     sym after.spells ∙ ap (λ (h : History). flat_map cycle_words (drop 1 h.whole ++ option_to_list h.begun)) (joined ∙ sym alone)
 
 -- and each proper prefix, of one word or more, is the words of a begun one
-pub prefix_is_begun : (word : List ℕ) (words : List (List ℕ)) → IsProperPrefixOfWhole (word ∷ words) → (cycle : Cycle) × IsBegunCycle cycle × (cycle_words cycle ≡ word ∷ words)
-prefix_is_begun word words is =
+pub prefix_is_begun : (word : List ℕ) (words : List (List ℕ)) (whole : Cycle) (next : List ℕ) (more : List (List ℕ)) → IsWholeCycle whole → cycle_words whole ≡ (word ∷ words) ++ next ∷ more
+    → (cycle : Cycle) × IsBegunCycle cycle × (cycle_words cycle ≡ word ∷ words)
+prefix_is_begun word words complete next more is_complete goes_on =
     let one = cycles_in_one_way (word ∷ words) in
     by_parts (history_of (word ∷ words)).whole (history_of (word ∷ words)).begun one.is_history.whole one.is_history.begun one.spells
   where
@@ -125,5 +146,5 @@ prefix_is_begun word words is =
     by_parts [] (Some cycle) wholes is_begun spells = (cycle, is_begun, sym (append-nil (cycle_words cycle)) ∙ spells)
     by_parts (first ∷ others) begun wholes is_begun spells =
         let rest : List (List ℕ) = flat_map cycle_words (others ++ option_to_list begun) in
-        let same : cycle_words is.whole ≡ cycle_words first ++ (rest ++ is.next ∷ is.more) = is.goes_on ∙ ap (λ ws. ws ++ is.next ∷ is.more) (sym spells) ∙ append_assoc (cycle_words first) rest (is.next ∷ is.more) in
-        absurd (nil-split rest is.next is.more (sym (nothing-more first is.whole (rest ++ is.next ∷ is.more) wholes.0 is.is_whole same)))
+        let same : cycle_words complete ≡ cycle_words first ++ (rest ++ next ∷ more) = goes_on ∙ ap (λ ws. ws ++ next ∷ more) (sym spells) ∙ append_assoc (cycle_words first) rest (next ∷ more) in
+        absurd (nil-split rest next more (sym (nothing-more first complete (rest ++ next ∷ more) wholes.0 is_complete same)))

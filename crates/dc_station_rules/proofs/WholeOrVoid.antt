@@ -1,6 +1,11 @@
 -- An ended epoch is whole or void and not both.
-use Rattle.std.proofs.Common.{◌≡◌, ℕ, suc, Bool, true, false, cond, nat_lt, List, [], ◌∷◌, ◌++◌, length, ◌⊎◌, inl, inr, Option, Some, None, Result, Ok, Err, option_map, refl, sym, ap, ◌∙◌, subst, true≢false, append-nil, append_assoc, slice_index_or, drop, replicate, lt-suc_self}
+use Rattle.std.proofs.Common.{◌≡◌, ℕ, suc, Bool, true, false, cond, nat_lt, List, [], ◌∷◌, ◌++◌, length, ◌⊎◌, inl, inr, Option, Some, None, Result, Ok, Err, option_map, refl, sym, ap, ◌∙◌, subst, true≢false, append-nil, append_assoc, slice_index_or, ltb-true, arith, drop, replicate, lt-suc_self}
 use mathlib.Core.List.{cons≢nil}
+use Rattle.std.proofs.lemmas.Bool.{cases_lt}
+use Rattle.std.proofs.lemmas.List.{get_or_past}
+use Rattle.std.proofs.lemmas.List.Elements.{All-nil, All-cons}
+use Rattle.std.proofs.lemmas.List.Sums.{AllPass-from_list_all}
+use Rattle.dc_spec.specs.Words.{IsWord, AreWords}
 use Rattle.std.specs.Result.{result_err}
 use Rattle.std.specs.Option.{unwrap_or, option_or, is_none}
 use Rattle.std.proofs.lemmas.Option.{none-some}
@@ -8,7 +13,7 @@ use Rattle.dc_spec.specs.Values.{last_number, fifteen}
 use Rattle.dc_spec.specs.Groups.{Group, GroupFault, group_of, counted, first_limb_where}
 use Rattle.dc_station_rules.specs.Epochs.{Leaf, EpochFault, no_group, Tree, unsplit, equal_values, parts, split_by, with_left, with_right, put, Ranged, current, come_out, Epoch, unbegun, resolving, void_epoch, with_word, with_words, epoch_of, leaves, is_over}
 use Rattle.dc_station_rules.specs.Grammar.{is_epoch, IsEpoch}
-use Rattle.dc_station_rules.specs.Resolving.{empty, IsWholeEpoch, Breaks, IsVoidEpoch, IsWholeOrVoid}
+use Rattle.dc_station_rules.specs.Resolving.{empty, IsWholeEpoch, Breaks, BreaksOff, IsVoidEpoch, IsWholeOrVoid}
 use Rattle.dc_spec.proofs.GroupLemmas.{err-ok, group_of-ok}
 use Rattle.dc_station_rules.proofs.Putting.{Takes, takes-append, takes-words, open-same, none-is, put-open, put-closed, resolves-closes, closes-resolves}
 use Rattle.dc_spec.proofs.Options.{some-inj}
@@ -171,7 +176,7 @@ void-is [] word next more others fault whole broken = void-root word fault broke
 void-is (b ∷ before) word next more others fault whole broken = void-later b before word next more others fault whole broken
 
 -- a void epoch ends with its last word
-void-ends : (words : List (List ℕ)) (out : List Leaf) (fault : EpochFault) → IsVoidEpoch words out fault → IsEpoch words × (epoch_of words ≡ void_epoch out fault)
+void-ends : (words : List (List ℕ)) (out : List Leaf) (fault : EpochFault) → BreaksOff words out fault → IsEpoch words × (epoch_of words ≡ void_epoch out fault)
 void-ends words out fault void =
     let same : epoch_of words ≡ void_epoch (leaves (epoch_of void.before)) fault = ap epoch_of void.is ∙ void-is void.before void.word void.next void.more void.others fault void.is_part void.breaks in (
       record { ended = ap is_over same; before = λ front w rest e. void-before void.before void.word void.next void.more void.others void.is_part front w rest (sym void.is ∙ e) },
@@ -204,6 +209,19 @@ outcome t (word ∷ words) = outcome-by t word words (λ u. outcome u words) (pu
 OneOf : List (List ℕ) → Type 0
 OneOf words = ((out : List Leaf) × IsWholeEpoch words out) ⊎ ((out : List Leaf) × (fault : EpochFault) × IsVoidEpoch words out fault)
 
+-- the zero word
+abbrev zeros : List ℕ
+zeros = replicate 16 0
+
+zero-IsWord : IsWord zeros
+zero-IsWord = record {
+  sixteen = refl;
+  symbols = λ l. elim (cases_lt l 16) [
+    | inl lt ↦ ltb-true _ _ (AllPass-from_list_all (λ x. nat_lt x 65537) zeros refl l 0 lt)
+    | inr le ↦ rw (get_or_past zeros l 0 le) (omega arith)
+  ];
+}
+
 -- an epoch of the zero word alone
 zero-whole : IsWholeEpoch (replicate 16 0 ∷ []) []
 unfolding group_of first_limb_where fifteen
@@ -212,7 +230,10 @@ zero-whole = record { root = replicate 16 0; group = counted (replicate 16 0); r
 -- a root that is no group, alone
 root-void : (root : List ℕ) (why : GroupFault) → group_of root ≡ Err why → IsVoidEpoch (root ∷ []) [] (no_group why)
 unfolding epoch_of
-root-void root why is = record { before = []; word = root; is = refl; next = replicate 16 0; more = []; others = []; is_part = zero-whole; breaks = (why, is, refl); had_come_out = refl }
+root-void root why is = record {
+  breaks_off = record { before = []; word = root; is = refl; next = replicate 16 0; more = []; others = []; is_part = zero-whole; breaks = (why, is, refl); had_come_out = refl };
+  are_words = All-cons IsWord (replicate 16 0) [] zero-IsWord (All-nil IsWord);
+}
 
 -- a word that breaks a check after words that a tree took: what stands before is a proper prefix of a whole epoch
 later-void : (root : List ℕ) (group : Group) (front : List (List ℕ)) (u : Tree) (word : List ℕ) (fault : EpochFault) → group_of root ≡ Ok group → Takes (unsplit group 0 last_number) front u → put word u ≡ Some (Err fault)
@@ -223,11 +244,11 @@ later-void root group front u word fault is takes broken = by_closing (close-tre
     there = after-root root group front u is takes
 
     by_closing : (c : Closing u) → c ≡ c → IsVoidEpoch (root ∷ front ++ word ∷ []) (leaves (epoch_of (root ∷ front))) fault
-    by_closing c same = by_words c.words c.takes
+    by_closing c same = by_words c.words c.are_words c.takes
       where
-        by_words : (ws : List (List ℕ)) → Takes u ws c.after → IsVoidEpoch (root ∷ front ++ word ∷ []) (leaves (epoch_of (root ∷ front))) fault
-        by_words [] all = absurd (true≢false (sym (ap is_none (ap current all ∙ c.closed)) ∙ put-open word u (Err fault) broken))
-        by_words (next ∷ more) all = record {
+        by_words : (ws : List (List ℕ)) → AreWords ws → Takes u ws c.after → IsVoidEpoch (root ∷ front ++ word ∷ []) (leaves (epoch_of (root ∷ front))) fault
+        by_words [] are all = absurd (true≢false (sym (ap is_none (ap current all ∙ c.closed)) ∙ put-open word u (Err fault) broken))
+        by_words (next ∷ more) are all = record { are_words = are; breaks_off = record {
           before = root ∷ front;
           word = word;
           is = refl;
@@ -244,7 +265,7 @@ later-void root group front u word fault is takes broken = by_closing (close-tre
           };
           breaks = subst (λ e. Breaks e word fault) (sym there) (breaks-put word fault u broken);
           had_come_out = refl;
-        }
+        } }
 
 -- what the outcome says of an ended epoch
 one-by : (root : List ℕ) (words : List (List ℕ)) (group : Group) → group_of root ≡ Ok group → IsEpoch (root ∷ words) → Outcome (unsplit group 0 last_number) words → OneOf (root ∷ words)
@@ -277,7 +298,7 @@ is_void (resolving tree) = false
 is_void (void_epoch out fault) = true
 
 -- an epoch is not both
-not-both : (words : List (List ℕ)) (out others : List Leaf) (fault : EpochFault) → IsWholeEpoch words out → IsVoidEpoch words others fault → ⊥
+not-both : (words : List (List ℕ)) (out others : List Leaf) (fault : EpochFault) → IsWholeEpoch words out → BreaksOff words others fault → ⊥
 unfolding is_void
 not-both words out others fault whole void = true≢false (sym (ap is_void (void-ends words others fault void).1) ∙ ap is_void (whole-ends words out whole).2)
 

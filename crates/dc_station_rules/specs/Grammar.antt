@@ -6,28 +6,28 @@ use Rattle.dc_station_rules.specs.Bursts.{IsMessageBurst, BurstFault, fault_at, 
 use Rattle.dc_station_rules.specs.Epochs.{epoch_of, is_over}
 use Rattle.dc_station_rules.specs.Cycles.{Cycle, History, granted, cycle_words, history_of, history_words}
 
--- a test fails on each front of these words, themselves included
+-- a test fails on each beginning of these words, themselves included
 abbrev pub NotYet : (List (List ℕ) → Bool) → List (List ℕ) → Type 0
 NotYet test words = (front rest : List (List ℕ)) → words ≡ front ++ rest → test front ≡ false
 
--- a test holds on these words, and on no shorter front of them
+-- a test holds on these words, and on no shorter beginning of them
 pub record EndsWith (test : List (List ℕ) → Bool) (words : List (List ℕ)) : Type 0 where
   pub ended : test words ≡ true
   pub before : (front : List (List ℕ)) (word : List ℕ) (rest : List (List ℕ)) → words ≡ front ++ word ∷ rest → test front ≡ false
 
--- whether words are all of a burst, a message's or a void one
+-- whether words are a whole burst, one of a message or a void one
 abbrev pub is_burst : List (List ℕ) → Bool
 is_burst words = has_ended (burst_of words)
 
--- whether words are all of an epoch, whole or void
+-- whether words are an epoch that has ended, whole or void
 abbrev pub is_epoch : List (List ℕ) → Bool
 is_epoch words = is_over (epoch_of words)
 
--- all words of one burst and no more
+-- the words of one burst, all of them and no more
 abbrev pub IsBurst : List (List ℕ) → Type 0
 IsBurst words = EndsWith is_burst words
 
--- all words of one epoch and no more
+-- the words of one epoch, all of them and no more
 abbrev pub IsEpoch : List (List ℕ) → Type 0
 IsEpoch words = EndsWith is_epoch words
 
@@ -42,7 +42,7 @@ pub record IsVoidBurst (words : List (List ℕ)) (fault : BurstFault) : Type 0 w
   pub is_part : IsMessageBurst (before ++ next ∷ more) message
   pub breaks : fault_at words (length before) ≡ Some fault
 
--- words that are a burst are a message burst or a void one and not both, and the computed burst tells which, and of which message
+-- words that are a burst are a message burst or a void one and not both, and the computed burst is that one, with its message or fault
 pub record IsMessageOrVoid (words : List (List ℕ)) : Type 0 where
   pub one : AreWords words → IsBurst words → ((message : List ℕ) × IsMessageBurst words message) ⊎ ((fault : BurstFault) × IsVoidBurst words fault)
   pub message : (message : List ℕ) → IsMessageBurst words message → IsBurst words × (burst_of words ≡ gave message)
@@ -63,7 +63,7 @@ pub record IsWholeCycle (cycle : Cycle) : Type 0 where
   pub bursts : AreBursts cycle.bursts
   pub epoch : IsEpoch cycle.since
 
--- whether words are all of what comes next: a burst where fields are left, else an epoch
+-- whether words are all of what comes next in a cycle: a burst where fields are left, else an epoch
 abbrev pub is_all_of_next : List ℕ → List (List ℕ) → Bool
 is_all_of_next [] words = is_epoch words
 is_all_of_next (field ∷ fields) words = is_burst words
@@ -86,10 +86,11 @@ pub record IsCyclesInOneWay (words : List (List ℕ)) : Type 0 where
   pub spells : history_words (history_of words) ≡ words
   pub only : (other : History) → IsHistory other → history_words other ≡ words → other ≡ history_of words
 
--- words and at least one more that are all words of a whole cycle
+-- these words and one or more words of sixteen symbols after them are the words of a whole cycle
 pub record IsProperPrefixOfWhole (words : List (List ℕ)) : Type 0 where
   pub whole : Cycle
   pub is_whole : IsWholeCycle whole
   pub next : List ℕ
   pub more : List (List ℕ)
   pub goes_on : cycle_words whole ≡ words ++ next ∷ more
+  pub are_words : AreWords (next ∷ more)

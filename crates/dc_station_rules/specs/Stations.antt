@@ -1,4 +1,5 @@
--- A station: what it sends, what it knows to be sent, and what is pending, each as a function of its stream and of the words that it received.
+-- A station: what it sends, which of its entries count as sent, and which are pending, each as a function of its stream and of
+-- the words that it received.
 use Rattle.std.specs.Prelude.{ℕ, Bool, false, List, [], ◌∷◌, ◌++◌, length, map, drop, Option, Some, None, option_map, nat_lt, nat_le, ◌==◌, ◌&&◌, if◌then◌else◌}
 use Rattle.std.specs.List.{flat_map, list_any}
 use Rattle.std.specs.Option.{option_to_list}
@@ -18,7 +19,7 @@ burst_entries b = option_to_list (option_map long (message_of (burst_of b.1)))
 abbrev pub leaf_entry : Leaf → Entry
 leaf_entry leaf = short leaf.value leaf.times
 
--- the leaves that came out in a cycle
+-- the leaves of a cycle's epoch
 abbrev pub cycle_leaves : Cycle → List Leaf
 cycle_leaves cycle = leaves (epoch_of (epoch_words cycle))
 
@@ -45,11 +46,12 @@ abbrev pub gave_message : List ℕ → Option (List ℕ) → Bool
 gave_message message None = false
 gave_message message (Some got) = bytes_eq got message
 
--- of the pending messages the first, where the burst of the marked field gave it
+-- the first pending message, where the burst of the marked field gave it
 abbrev pub first_long : List (List ℕ) → Option ℕ → Cycle → List (List ℕ)
 first_long [] mark cycle = []
 first_long (message ∷ longs) None cycle = []
-first_long (message ∷ longs) (Some field) cycle = if gave_message message (message_of (burst_of (words_for field cycle.bursts))) then message ∷ [] else []
+first_long (message ∷ longs) (Some field) cycle =
+    if gave_message message (message_of (burst_of (words_for field cycle.bursts))) then message ∷ [] else []
 
 -- the messages of a pending stream that a cycle sends: one or none
 unfoldable pub longs_sent : Stream → Cycle → List (List ℕ)
@@ -57,9 +59,10 @@ longs_sent stream cycle = first_long stream.longs (marked stream) cycle
 
 -- whether a leaf is this value, and its range holds the value's number
 abbrev pub is_leaf_of : List ℕ → Leaf → Bool
-is_leaf_of value leaf = bytes_eq leaf.value value && nat_le leaf.low (number_of value) && nat_le (number_of value) leaf.high
+is_leaf_of value leaf =
+    bytes_eq leaf.value value && nat_le leaf.low (number_of value) && nat_le (number_of value) leaf.high
 
--- of the pending values the first, where a leaf of it came out
+-- the first pending value, where a leaf of the epoch is one of it
 abbrev pub first_short : List (List ℕ) → List Leaf → List (List ℕ)
 first_short [] out = []
 first_short (value ∷ shorts) out = if list_any (is_leaf_of value) out then value ∷ [] else []
@@ -68,14 +71,19 @@ first_short (value ∷ shorts) out = if list_any (is_leaf_of value) out then val
 unfoldable pub shorts_sent : Stream → Cycle → List (List ℕ)
 shorts_sent stream cycle = first_short stream.shorts (cycle_leaves cycle)
 
--- how many coins a cycle uses up: one where a field is marked
+-- how many coins a cycle uses: one where a field is marked
 abbrev pub coins_used : Option ℕ → ℕ
 coins_used None = 0
 coins_used (Some field) = 1
 
 -- what is pending after a cycle
 unfoldable pub left_by : Stream → Cycle → Stream
-left_by stream cycle = record { shorts = drop (length (shorts_sent stream cycle)) stream.shorts; longs = drop (length (longs_sent stream cycle)) stream.longs; coins = drop (coins_used (marked stream)) stream.coins }
+left_by stream cycle =
+    record {
+      shorts = drop (length (shorts_sent stream cycle)) stream.shorts;
+      longs = drop (length (longs_sent stream cycle)) stream.longs;
+      coins = drop (coins_used (marked stream)) stream.coins;
+    }
 
 -- what is pending after cycles
 abbrev pub left_after : Stream → List Cycle → Stream
@@ -118,7 +126,7 @@ abbrev pub burst_word : Option ℕ → ℕ → List (List ℕ) → ℕ → List 
 burst_word None field longs i = zero_word
 burst_word (Some mark) field longs i = if mark == field then long_word longs i else zero_word
 
--- the word of an epoch: the first value, where it is called for
+-- the word of an epoch: the first pending value, where the epoch calls for it
 abbrev pub epoch_word : List (List ℕ) → Epoch → List ℕ
 epoch_word [] epoch = zero_word
 epoch_word (value ∷ shorts) epoch = if calls value epoch then contended_word value 1 else zero_word

@@ -1,4 +1,4 @@
-//! Laws of one station's protocol: functions that do nothing, whose contracts are the laws.
+//! Laws of the protocol of one station. The functions do nothing; each one's contract is a law.
 
 ghost use Rattle.dc_station_rules.specs.Laws.{EveryHistoryIsCyclesInOneWay, EveryBegunCycleGoesOn, EveryProperPrefixIsBegun, EveryBurstIsMessageOrVoid, EveryEpochIsWholeOrVoid, LeavesAddUp, LeavesAreFew, OnlyRootsAreEmpty, MessagesFit, LeavesGrow, LogsFit};
 
@@ -8,28 +8,28 @@ pub fn every_history_is_cycles_in_one_way()
     ensures { EveryHistoryIsCyclesInOneWay }
 {}
 
-/// A begun cycle is cut off and no more: its words are a proper prefix of a whole cycle.
+/// A begun cycle is one that was cut off: with some words of sixteen symbols more it is whole.
 #[tactic(auto, using(crate::proofs::GoingOn::begun_goes_on))]
 pub fn every_begun_cycle_goes_on()
     ensures { EveryBegunCycleGoesOn }
 {}
 
-/// Wherever a whole cycle is cut off, after its first word or later, what stands before the cut is
-/// the words of a begun cycle.
-#[tactic(auto, using(crate::proofs::GoingOn::prefix_is_begun))]
+/// Wherever a whole cycle is cut off, after its first word or later, the words before the cut are
+/// those of a begun cycle.
 pub fn every_proper_prefix_is_begun()
     ensures { EveryProperPrefixIsBegun }
 {}
 
-/// An ended burst is a message burst or a void one and not both, and it is what the computed burst
-/// says. So a burst gives a message exactly where its words are the fragments of that message.
+/// An ended burst is a message burst or a void one and not both, and the computed burst is that one.
+/// So a burst gives a message exactly where its words are the fragments of that message.
 #[tactic(auto, using(crate::proofs::MessageOrVoid::message_or_void))]
 pub fn every_burst_is_message_or_void()
     ensures { EveryBurstIsMessageOrVoid }
 {}
 
-/// An ended epoch is whole or void and not both, and it is what the computed epoch says: whole with
-/// the leaves of its tree, or void with the leaves that had come out and the first check that broke.
+/// An ended epoch is whole or void and not both, and the computed epoch is that one: whole with the
+/// leaves of its tree, or void with the leaves up to then and the fault of the first check that broke.
+/// What precedes the last word of a void one is, with some words of sixteen symbols more, whole.
 #[tactic(auto, using(crate::proofs::WholeOrVoid::whole_or_void))]
 pub fn every_epoch_is_whole_or_void()
     ensures { EveryEpochIsWholeOrVoid }
@@ -41,7 +41,7 @@ pub fn leaves_add_up()
     ensures { LeavesAddUp }
 {}
 
-/// After so many words of an epoch, disturbed or not, at most as many leaves have come out.
+/// An epoch, disturbed or not, has at most as many leaves as words.
 #[tactic(auto, using(crate::proofs::FewLeaves::leaves_are_few))]
 pub fn leaves_are_few()
     ensures { LeavesAreFew }
@@ -58,13 +58,13 @@ pub fn messages_fit()
     ensures { MessagesFit }
 {}
 
-/// One more word of an epoch adds the leaves that come out at it behind those before; none goes.
+/// One more word of an epoch may add leaves at the end; those before stay.
 pub fn leaves_grow()
     ensures { LeavesGrow }
 {}
 
-/// After so many received words a station's log has at most so many entries, of at most fifteen bytes
-/// a word in all, and so has the list of what it sent.
+/// A station's log has at most one entry for each received word, and at most fifteen bytes for each in
+/// all; and so has the list of its sent entries.
 pub fn logs_fit()
     ensures { LogsFit }
 {}
