@@ -1,3 +1,5 @@
+pub mod SharedValues
+mod LimitNumbers
 pub mod OutsideCases
 pub mod WorkedFiles
 pub mod WithinLimits

@@ -17,7 +17,8 @@ use Rattle.dc_formats.specs.ScriptFile.{AreStationWords, IsTurn, IsScript}
 use Rattle.dc_formats.specs.ListFiles.{AreImages, AreWanted}
 use Rattle.dc_spec.specs.Frames.{hello, send}
 use Rattle.dc_formats.specs.Frames.{IsFrame}
-use Rattle.dc_cases.proofs.WorkedFiles.{word_with, small_value, opposite_words, dealing_script, small_keys}
+use Rattle.dc_cases.proofs.SharedValues.{two_ends, small_value, dealing, exchange}
+use Rattle.dc_cases.proofs.WorkedFiles.{opposite_words, dealing_script, small_keys}
 
 -- a bound that a test finds for every number of a list
 below_by_test : (bound : ℕ) (xs : List ℕ) → list_all (λ x. nat_lt x bound) xs ≡ true → All (λ x. x < bound) xs
@@ -39,7 +40,8 @@ transcript_fits = record {
   some_rounds = omega arith;
   most_rounds = omega arith;
   count = refl;
-  are_words = All-cons IsWord (replicate 16 65536) (replicate 16 1 ∷ []) (word_by_test (replicate 16 65536) refl refl) (All-cons IsWord (replicate 16 1) [] (word_by_test (replicate 16 1) refl refl) (All-nil IsWord));
+  are_words = All-cons IsWord (replicate 16 65536) (replicate 16 1 ∷ []) (word_by_test (replicate 16 65536) refl refl) (All-cons IsWord (replicate 16 1) [] (word_by_test (replicate 16 1) refl refl)
+      (All-nil IsWord));
 }
 
 -- the one pair of the small key file
@@ -90,17 +92,17 @@ stream_fits = record {
 }
 
 -- a file of images
-images_fit : AreImages (2 ∷ 1 ∷ 0 ∷ 3 ∷ [])
-images_fit = record { most = lit≤ tt; numbers = below_by_test 256 (2 ∷ 1 ∷ 0 ∷ 3 ∷ []) refl }
+images_fit : AreImages exchange
+images_fit = record { most = lit≤ tt; numbers = below_by_test 256 exchange refl }
 
 -- a file of wanted words
-wanted_fits : AreWanted (word_with 7 9 ∷ [])
-wanted_fits = record { most = lit≤ tt; are_words = All-cons IsWord (word_with 7 9) [] (word_by_test (word_with 7 9) refl refl) (All-nil IsWord) }
+wanted_fits : AreWanted (two_ends 7 9 ∷ [])
+wanted_fits = record { most = lit≤ tt; are_words = All-cons IsWord (two_ends 7 9) [] (word_by_test (two_ends 7 9) refl refl) (All-nil IsWord) }
 
 -- two frames
-frames_fit : All IsFrame (hello 0 2 2 ∷ send 1 (word_with 1 2) ∷ [])
-frames_fit = All-cons IsFrame (hello 0 2 2) (send 1 (word_with 1 2) ∷ []) (omega arith, omega arith, omega arith)
-    (All-cons IsFrame (send 1 (word_with 1 2)) [] (omega arith, word_by_test (word_with 1 2) refl refl) (All-nil IsFrame))
+frames_fit : All IsFrame (hello 0 2 2 ∷ send 1 (two_ends 1 2) ∷ [])
+frames_fit = All-cons IsFrame (hello 0 2 2) (send 1 (two_ends 1 2) ∷ []) (omega arith, omega arith, omega arith)
+    (All-cons IsFrame (send 1 (two_ends 1 2)) [] (omega arith, word_by_test (two_ends 1 2) refl refl) (All-nil IsFrame))
 
 -- two stations with a word each
 two_station_words : (i j : ℕ) (v w : List ℕ) → i < j → j < 65536 → IsWord v → IsWord w → AreStationWords ((i, v) ∷ (j, w) ∷ [])
@@ -132,12 +134,12 @@ unfolding word_of
 zero_is_word = word_by_test (replicate 16 0) refl refl
 
 -- the first round of the dealing script
-first_turn_fits : IsTurn (record { says = (2, zero_word) ∷ []; delivery = each ((0, word_with 0 2) ∷ (1, word_with 0 3) ∷ []) })
-first_turn_fits = dealing_turn ((2, zero_word) ∷ []) ((0, word_with 0 2) ∷ (1, word_with 0 3) ∷ []) (one_station_word 2 zero_word (lit< tt) zero_is_word) (lit≤ tt)
-    (two_station_words 0 1 (word_with 0 2) (word_with 0 3) (lit< tt) (lit< tt) (word_by_test (word_with 0 2) refl refl) (word_by_test (word_with 0 3) refl refl))
+first_turn_fits : IsTurn (dealing (two_ends 0 2) (two_ends 0 3))
+first_turn_fits = dealing_turn ((2, zero_word) ∷ []) ((0, two_ends 0 2) ∷ (1, two_ends 0 3) ∷ []) (one_station_word 2 zero_word (lit< tt) zero_is_word) (lit≤ tt)
+    (two_station_words 0 1 (two_ends 0 2) (two_ends 0 3) (lit< tt) (lit< tt) (word_by_test (two_ends 0 2) refl refl) (word_by_test (two_ends 0 3) refl refl))
 
 -- the second
-second_turn_fits : IsTurn (record { says = (2, zero_word) ∷ []; delivery = each ((0, zero_word) ∷ (1, zero_word) ∷ []) })
+second_turn_fits : IsTurn (dealing zero_word zero_word)
 second_turn_fits = dealing_turn ((2, zero_word) ∷ []) ((0, zero_word) ∷ (1, zero_word) ∷ []) (one_station_word 2 zero_word (lit< tt) zero_is_word) (lit≤ tt)
     (two_station_words 0 1 zero_word zero_word (lit< tt) (lit< tt) zero_is_word zero_is_word)
 

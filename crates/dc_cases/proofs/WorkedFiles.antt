@@ -1,5 +1,5 @@
 -- Formats computed on whole examples: the expected lines and bytes are written out, and each lemma holds by computation.
-use Rattle.std.specs.Prelude.{◌≡◌, ℕ, List, [], ◌∷◌, ◌++◌, length, replicate, slice_set, codes, refl}
+use Rattle.std.specs.Prelude.{◌≡◌, List, [], ◌∷◌, ◌++◌, length, replicate, slice_set, codes, refl}
 use Rattle.std.specs.List.{range_with_len}
 use Rattle.std.specs.Fmt.{digits}
 use Rattle.dc_spec.specs.Words.{word_of, zero_word}
@@ -7,7 +7,7 @@ use Rattle.dc_spec.specs.Text.{words_text}
 use Rattle.dc_spec.specs.Recorded.{Recorded, superposed, transcript_bytes}
 use Rattle.dc_spec.specs.Entries.{Entry, short, long}
 use Rattle.dc_spec.specs.Scripts.{all_sum, each, Turn}
-use Rattle.dc_spec.specs.Pads.{Pair, Keys}
+use Rattle.dc_spec.specs.Pads.{Keys}
 use Rattle.dc_spec.specs.Net.{Net, Run}
 use Rattle.dc_formats.specs.TextFile.{text_file, hex_text, ended, cut_off, file_lines}
 use Rattle.dc_formats.specs.KeyFile.{keys_bytes}
@@ -22,14 +22,7 @@ use Rattle.dc_run_texts.specs.Shifts.{shifts_text}
 use Rattle.dc_net_rules.specs.Steerings.{Steering}
 use Rattle.dc_run_texts.specs.Steering.{steering_text}
 use Rattle.dc_run_texts.specs.Trial.{trial_text}
-
--- the word with this first and this last symbol, and zeros between them
-abbrev pub word_with : ℕ → ℕ → List ℕ
-word_with c x = c ∷ replicate 14 0 ++ x ∷ []
-
--- the value with this number, which is below 256
-abbrev pub small_value : ℕ → List ℕ
-small_value x = replicate 14 0 ++ x ∷ []
+use Rattle.dc_cases.proofs.SharedValues.{two_ends, small_value, dealing, exchange, zero_pair, nothing}
 
 -- a text file is its lines, each with a line feed
 lines_and_ends : text_file (codes "ab" ∷ [] ∷ codes "~" ∷ []) ≡ 97 ∷ 98 ∷ 10 ∷ 10 ∷ 126 ∷ 10 ∷ []
@@ -53,15 +46,19 @@ unfolding word_of
 printed_sum_of_opposite_words = refl
 
 -- the file of that session
-transcript_of_opposite_words : transcript_bytes opposite_words ≡ codes "DCT1" ++ 0 ∷ 2 ∷ 0 ∷ 1 ∷ [] ++ (0 ∷ 1 ∷ 0 ∷ 0 ∷ 0 ∷ 1 ∷ 0 ∷ 0 ∷ 0 ∷ 1 ∷ 0 ∷ 0 ∷ 0 ∷ 1 ∷ 0 ∷ 0 ∷ 0 ∷ 1 ∷ 0 ∷ 0 ∷ 0 ∷ 1 ∷ 0 ∷ 0 ∷ 0 ∷ 1 ∷ 0 ∷ 0 ∷ 0 ∷ 1 ∷ 0 ∷ 0 ∷ 0 ∷ 1 ∷ 0 ∷ 0 ∷ 0 ∷ 1 ∷ 0 ∷ 0 ∷ 0 ∷ 1 ∷ 0 ∷ 0 ∷ 0 ∷ 1 ∷ 0 ∷ 0 ∷ 0 ∷ 1 ∷ 0 ∷ 0 ∷ 0 ∷ 1 ∷ 0 ∷ 0 ∷ 0 ∷ 1 ∷ 0 ∷ 0 ∷ 0 ∷ 1 ∷ 0 ∷ 0 ∷ []) ++ (0 ∷ 0 ∷ 0 ∷ 1 ∷ 0 ∷ 0 ∷ 0 ∷ 1 ∷ 0 ∷ 0 ∷ 0 ∷ 1 ∷ 0 ∷ 0 ∷ 0 ∷ 1 ∷ 0 ∷ 0 ∷ 0 ∷ 1 ∷ 0 ∷ 0 ∷ 0 ∷ 1 ∷ 0 ∷ 0 ∷ 0 ∷ 1 ∷ 0 ∷ 0 ∷ 0 ∷ 1 ∷ 0 ∷ 0 ∷ 0 ∷ 1 ∷ 0 ∷ 0 ∷ 0 ∷ 1 ∷ 0 ∷ 0 ∷ 0 ∷ 1 ∷ 0 ∷ 0 ∷ 0 ∷ 1 ∷ 0 ∷ 0 ∷ 0 ∷ 1 ∷ 0 ∷ 0 ∷ 0 ∷ 1 ∷ 0 ∷ 0 ∷ 0 ∷ 1 ∷ 0 ∷ 0 ∷ 0 ∷ 1 ∷ [])
+transcript_of_opposite_words : transcript_bytes opposite_words ≡ codes "DCT1" ++ 0 ∷ 2 ∷ 0 ∷ 1 ∷ [] ++ (0 ∷ 1 ∷ 0 ∷ 0 ∷ 0 ∷ 1 ∷ 0 ∷ 0 ∷ 0 ∷ 1 ∷ 0 ∷ 0 ∷ 0 ∷ 1 ∷ 0 ∷ 0 ∷ 0 ∷ 1 ∷ 0 ∷ 0 ∷ 0 ∷ 1 ∷ 0 ∷ 0
+    ∷ 0 ∷ 1 ∷ 0 ∷ 0 ∷ 0 ∷ 1 ∷ 0 ∷ 0 ∷ 0 ∷ 1 ∷ 0 ∷ 0 ∷ 0 ∷ 1 ∷ 0 ∷ 0 ∷ 0 ∷ 1 ∷ 0 ∷ 0 ∷ 0 ∷ 1 ∷ 0 ∷ 0 ∷ 0 ∷ 1 ∷ 0 ∷ 0 ∷ 0 ∷ 1 ∷ 0 ∷ 0 ∷ 0 ∷ 1 ∷ 0 ∷ 0 ∷ 0 ∷ 1 ∷ 0 ∷ 0 ∷ [])
+    ++ (0 ∷ 0 ∷ 0 ∷ 1 ∷ 0 ∷ 0 ∷ 0 ∷ 1 ∷ 0 ∷ 0 ∷ 0 ∷ 1 ∷ 0 ∷ 0 ∷ 0 ∷ 1 ∷ 0 ∷ 0 ∷ 0 ∷ 1 ∷ 0 ∷ 0 ∷ 0 ∷ 1 ∷ 0 ∷ 0 ∷ 0 ∷ 1 ∷ 0 ∷ 0 ∷ 0 ∷ 1 ∷ 0 ∷ 0 ∷ 0 ∷ 1 ∷ 0 ∷ 0 ∷ 0 ∷ 1 ∷ 0 ∷ 0 ∷ 0 ∷ 1 ∷ 0 ∷ 0 ∷ 0 ∷ 1
+    ∷ 0 ∷ 0 ∷ 0 ∷ 1 ∷ 0 ∷ 0 ∷ 0 ∷ 1 ∷ 0 ∷ 0 ∷ 0 ∷ 1 ∷ 0 ∷ 0 ∷ 0 ∷ 1 ∷ [])
 transcript_of_opposite_words = refl
 
 -- a session of one station and one round
 abbrev pub lone_word : Recorded
-lone_word = record { stations = 1; rounds = 1; words = word_with 1 2 ∷ [] }
+lone_word = record { stations = 1; rounds = 1; words = two_ends 1 2 ∷ [] }
 
 -- the file that a hub writes of it
-transcript_of_lone_word : transcript_bytes lone_word ≡ (68 ∷ 67 ∷ 84 ∷ 49 ∷ 0 ∷ 1 ∷ 0 ∷ 1 ∷ []) ++ (0 ∷ 0 ∷ 0 ∷ 1 ∷ 0 ∷ 0 ∷ 0 ∷ 0 ∷ 0 ∷ 0 ∷ 0 ∷ 0 ∷ 0 ∷ 0 ∷ 0 ∷ 0 ∷ 0 ∷ 0 ∷ 0 ∷ 0 ∷ 0 ∷ 0 ∷ 0 ∷ 0 ∷ 0 ∷ 0 ∷ 0 ∷ 0 ∷ 0 ∷ 0 ∷ 0 ∷ 0 ∷ 0 ∷ 0 ∷ 0 ∷ 0 ∷ 0 ∷ 0 ∷ 0 ∷ 0 ∷ 0 ∷ 0 ∷ 0 ∷ 0 ∷ 0 ∷ 0 ∷ 0 ∷ 0 ∷ 0 ∷ 0 ∷ 0 ∷ 0 ∷ 0 ∷ 0 ∷ 0 ∷ 0 ∷ 0 ∷ 0 ∷ 0 ∷ 0 ∷ 0 ∷ 0 ∷ 0 ∷ 2 ∷ [])
+transcript_of_lone_word : transcript_bytes lone_word ≡ (68 ∷ 67 ∷ 84 ∷ 49 ∷ 0 ∷ 1 ∷ 0 ∷ 1 ∷ []) ++ (0 ∷ 0 ∷ 0 ∷ 1 ∷ 0 ∷ 0 ∷ 0 ∷ 0 ∷ 0 ∷ 0 ∷ 0 ∷ 0 ∷ 0 ∷ 0 ∷ 0 ∷ 0 ∷ 0 ∷ 0 ∷ 0 ∷ 0 ∷ 0 ∷ 0 ∷ 0 ∷ 0 ∷ 0
+    ∷ 0 ∷ 0 ∷ 0 ∷ 0 ∷ 0 ∷ 0 ∷ 0 ∷ 0 ∷ 0 ∷ 0 ∷ 0 ∷ 0 ∷ 0 ∷ 0 ∷ 0 ∷ 0 ∷ 0 ∷ 0 ∷ 0 ∷ 0 ∷ 0 ∷ 0 ∷ 0 ∷ 0 ∷ 0 ∷ 0 ∷ 0 ∷ 0 ∷ 0 ∷ 0 ∷ 0 ∷ 0 ∷ 0 ∷ 0 ∷ 0 ∷ 0 ∷ 0 ∷ 0 ∷ 2 ∷ [])
 transcript_of_lone_word = refl
 
 -- what a hub prints of it
@@ -74,12 +71,14 @@ greeting_frame : frame_bytes (hello 0 2 2) ≡ (1 ∷ 0 ∷ 6 ∷ 0 ∷ 0 ∷ 0 
 greeting_frame = refl
 
 -- a station's zero word of round 1
-sent_frame : frame_bytes (send 1 zero_word) ≡ (2 ∷ 0 ∷ 66 ∷ 0 ∷ 1 ∷ 0 ∷ 0 ∷ 0 ∷ 0 ∷ 0 ∷ 0 ∷ 0 ∷ 0 ∷ 0 ∷ 0 ∷ 0 ∷ 0 ∷ 0 ∷ 0 ∷ 0 ∷ 0 ∷ 0 ∷ 0 ∷ 0 ∷ 0 ∷ 0 ∷ 0 ∷ 0 ∷ 0 ∷ 0 ∷ 0 ∷ 0 ∷ 0 ∷ 0 ∷ 0 ∷ 0 ∷ 0 ∷ 0 ∷ 0 ∷ 0 ∷ 0 ∷ 0 ∷ 0 ∷ 0 ∷ 0 ∷ 0 ∷ 0 ∷ 0 ∷ 0 ∷ 0 ∷ 0 ∷ 0 ∷ 0 ∷ 0 ∷ 0 ∷ 0 ∷ 0 ∷ 0 ∷ 0 ∷ 0 ∷ 0 ∷ 0 ∷ 0 ∷ 0 ∷ 0 ∷ 0 ∷ 0 ∷ 0 ∷ 0 ∷ [])
+sent_frame : frame_bytes (send 1 zero_word) ≡ (2 ∷ 0 ∷ 66 ∷ 0 ∷ 1 ∷ 0 ∷ 0 ∷ 0 ∷ 0 ∷ 0 ∷ 0 ∷ 0 ∷ 0 ∷ 0 ∷ 0 ∷ 0 ∷ 0 ∷ 0 ∷ 0 ∷ 0 ∷ 0 ∷ 0 ∷ 0 ∷ 0 ∷ 0 ∷ 0 ∷ 0 ∷ 0 ∷ 0 ∷ 0 ∷ 0 ∷ 0 ∷ 0 ∷ 0 ∷ 0 ∷ 0 ∷ 0 ∷ 0
+    ∷ 0 ∷ 0 ∷ 0 ∷ 0 ∷ 0 ∷ 0 ∷ 0 ∷ 0 ∷ 0 ∷ 0 ∷ 0 ∷ 0 ∷ 0 ∷ 0 ∷ 0 ∷ 0 ∷ 0 ∷ 0 ∷ 0 ∷ 0 ∷ 0 ∷ 0 ∷ 0 ∷ 0 ∷ 0 ∷ 0 ∷ 0 ∷ 0 ∷ 0 ∷ 0 ∷ 0 ∷ [])
 unfolding word_of
 sent_frame = refl
 
 -- the sum of round 0
-broadcast_frame : frame_bytes (all 0 (word_with 1 2)) ≡ (3 ∷ 0 ∷ 66 ∷ 0 ∷ 0 ∷ 0 ∷ 0 ∷ 0 ∷ 1 ∷ 0 ∷ 0 ∷ 0 ∷ 0 ∷ 0 ∷ 0 ∷ 0 ∷ 0 ∷ 0 ∷ 0 ∷ 0 ∷ 0 ∷ 0 ∷ 0 ∷ 0 ∷ 0 ∷ 0 ∷ 0 ∷ 0 ∷ 0 ∷ 0 ∷ 0 ∷ 0 ∷ 0 ∷ 0 ∷ 0 ∷ 0 ∷ 0 ∷ 0 ∷ 0 ∷ 0 ∷ 0 ∷ 0 ∷ 0 ∷ 0 ∷ 0 ∷ 0 ∷ 0 ∷ 0 ∷ 0 ∷ 0 ∷ 0 ∷ 0 ∷ 0 ∷ 0 ∷ 0 ∷ 0 ∷ 0 ∷ 0 ∷ 0 ∷ 0 ∷ 0 ∷ 0 ∷ 0 ∷ 0 ∷ 0 ∷ 0 ∷ 0 ∷ 0 ∷ 2 ∷ [])
+broadcast_frame : frame_bytes (all 0 (two_ends 1 2)) ≡ (3 ∷ 0 ∷ 66 ∷ 0 ∷ 0 ∷ 0 ∷ 0 ∷ 0 ∷ 1 ∷ 0 ∷ 0 ∷ 0 ∷ 0 ∷ 0 ∷ 0 ∷ 0 ∷ 0 ∷ 0 ∷ 0 ∷ 0 ∷ 0 ∷ 0 ∷ 0 ∷ 0 ∷ 0 ∷ 0 ∷ 0 ∷ 0 ∷ 0 ∷ 0 ∷ 0 ∷ 0 ∷ 0 ∷ 0 ∷ 0 ∷ 0
+    ∷ 0 ∷ 0 ∷ 0 ∷ 0 ∷ 0 ∷ 0 ∷ 0 ∷ 0 ∷ 0 ∷ 0 ∷ 0 ∷ 0 ∷ 0 ∷ 0 ∷ 0 ∷ 0 ∷ 0 ∷ 0 ∷ 0 ∷ 0 ∷ 0 ∷ 0 ∷ 0 ∷ 0 ∷ 0 ∷ 0 ∷ 0 ∷ 0 ∷ 0 ∷ 0 ∷ 0 ∷ 0 ∷ 2 ∷ [])
 broadcast_frame = refl
 
 -- a message and two coins
@@ -88,23 +87,25 @@ unfolding digits
 stream_with_a_message = refl
 
 -- two values, a message of no bytes, the greatest coin
-stream_of_all_kinds : stream_text (record { shorts = small_value 1 ∷ small_value 171 ∷ []; longs = [] ∷ []; coins = 15 ∷ [] }) ≡ text_file (codes "short 000000000000000000000000000001" ∷ codes "short 0000000000000000000000000000ab" ∷ codes "long " ∷ codes "coin 15" ∷ [])
+stream_of_all_kinds : stream_text (record { shorts = small_value 1 ∷ small_value 171 ∷ []; longs = [] ∷ []; coins = 15 ∷ [] }) ≡ text_file (codes "short 000000000000000000000000000001"
+    ∷ codes "short 0000000000000000000000000000ab" ∷ codes "long " ∷ codes "coin 15" ∷ [])
 unfolding digits
 stream_of_all_kinds = refl
 
 -- the empty stream is the empty file
-empty_stream : stream_text (record { shorts = []; longs = []; coins = [] }) ≡ []
+empty_stream : stream_text nothing ≡ []
 empty_stream = refl
 
 -- one member that says zero words; in the first round the other two stations receive different words
 abbrev pub dealing_script : List Turn
-dealing_script =
-    record { says = (2, zero_word) ∷ []; delivery = each ((0, word_with 0 2) ∷ (1, word_with 0 3) ∷ []) }
-    ∷ record { says = (2, zero_word) ∷ []; delivery = each ((0, zero_word) ∷ (1, zero_word) ∷ []) }
-    ∷ []
+dealing_script = dealing (two_ends 0 2) (two_ends 0 3) ∷ dealing zero_word zero_word ∷ []
 
 -- its file
-dealing_script_file : script_text dealing_script ≡ text_file (codes "dcscript 1" ∷ codes "round 0" ∷ codes "say 2 00000000000000000000000000000000000000000000000000000000000000000000000000000000" ∷ codes "to 0 00000000000000000000000000000000000000000000000000000000000000000000000000000002" ∷ codes "to 1 00000000000000000000000000000000000000000000000000000000000000000000000000000003" ∷ codes "round 1" ∷ codes "say 2 00000000000000000000000000000000000000000000000000000000000000000000000000000000" ∷ codes "to 0 00000000000000000000000000000000000000000000000000000000000000000000000000000000" ∷ codes "to 1 00000000000000000000000000000000000000000000000000000000000000000000000000000000" ∷ [])
+dealing_script_file : script_text dealing_script ≡ text_file (codes "dcscript 1" ∷ codes "round 0" ∷ codes "say 2 00000000000000000000000000000000000000000000000000000000000000000000000000000000"
+    ∷ codes "to 0 00000000000000000000000000000000000000000000000000000000000000000000000000000002" ∷ codes "to 1 00000000000000000000000000000000000000000000000000000000000000000000000000000003"
+    ∷ codes "round 1" ∷ codes "say 2 00000000000000000000000000000000000000000000000000000000000000000000000000000000"
+    ∷ codes "to 0 00000000000000000000000000000000000000000000000000000000000000000000000000000000" ∷ codes "to 1 00000000000000000000000000000000000000000000000000000000000000000000000000000000"
+    ∷ [])
 unfolding word_of digits
 dealing_script_file = refl
 
@@ -118,12 +119,12 @@ empty_script_file : script_text [] ≡ text_file (codes "dcscript 1" ∷ [])
 empty_script_file = refl
 
 -- stations 0 and 2 change places
-images_file : images_text (2 ∷ 1 ∷ 0 ∷ 3 ∷ []) ≡ text_file (codes "2" ∷ codes "1" ∷ codes "0" ∷ codes "3" ∷ [])
+images_file : images_text exchange ≡ text_file (codes "2" ∷ codes "1" ∷ codes "0" ∷ codes "3" ∷ [])
 unfolding digits
 images_file = refl
 
 -- one wanted word
-wanted_file : wanted_text (word_with 7 9 ∷ []) ≡ text_file (codes "00007000000000000000000000000000000000000000000000000000000000000000000000000009" ∷ [])
+wanted_file : wanted_text (two_ends 7 9 ∷ []) ≡ text_file (codes "00007000000000000000000000000000000000000000000000000000000000000000000000000009" ∷ [])
 wanted_file = refl
 
 -- a key file of one pair and one word: first pads 1 to 16, second pads 0, 65536 and zeros
@@ -135,15 +136,14 @@ small_keys = record {
 }
 
 -- its bytes
-small_key_file : keys_bytes small_keys ≡ (68 ∷ 67 ∷ 75 ∷ 1 ∷ 0 ∷ 3 ∷ 0 ∷ 1 ∷ 0 ∷ 0 ∷ 0 ∷ 1 ∷ 0 ∷ 0 ∷ 0 ∷ 2 ∷ 0 ∷ 0 ∷ 0 ∷ 1 ∷ 0 ∷ 0 ∷ 0 ∷ 2 ∷ 0 ∷ 0 ∷ 0 ∷ 3 ∷ 0 ∷ 0 ∷ 0 ∷ 4 ∷ 0 ∷ 0 ∷ 0 ∷ 5 ∷ 0 ∷ 0 ∷ 0 ∷ 6 ∷ 0 ∷ 0 ∷ 0 ∷ 7 ∷ 0 ∷ 0 ∷ 0 ∷ 8 ∷ 0 ∷ 0 ∷ 0 ∷ 9 ∷ 0 ∷ 0 ∷ 0 ∷ 10 ∷ 0 ∷ 0 ∷ 0 ∷ 11 ∷ 0 ∷ 0 ∷ 0 ∷ 12 ∷ 0 ∷ 0 ∷ 0 ∷ 13 ∷ 0 ∷ 0 ∷ 0 ∷ 14 ∷ 0 ∷ 0 ∷ 0 ∷ 15 ∷ 0 ∷ 0 ∷ 0 ∷ 16 ∷ 0 ∷ 0 ∷ 0 ∷ 0 ∷ 0 ∷ 1 ∷ 0 ∷ 0 ∷ 0 ∷ 0 ∷ 0 ∷ 0 ∷ 0 ∷ 0 ∷ 0 ∷ 0 ∷ 0 ∷ 0 ∷ 0 ∷ 0 ∷ 0 ∷ 0 ∷ 0 ∷ 0 ∷ 0 ∷ 0 ∷ 0 ∷ 0 ∷ 0 ∷ 0 ∷ 0 ∷ 0 ∷ 0 ∷ 0 ∷ 0 ∷ 0 ∷ 0 ∷ 0 ∷ 0 ∷ 0 ∷ 0 ∷ 0 ∷ 0 ∷ 0 ∷ 0 ∷ 0 ∷ 0 ∷ 0 ∷ 0 ∷ 0 ∷ 0 ∷ 0 ∷ 0 ∷ 0 ∷ 0 ∷ 0 ∷ 0 ∷ 0 ∷ 0 ∷ 0 ∷ 0 ∷ 0 ∷ 0 ∷ 0 ∷ [])
+small_key_file : keys_bytes small_keys ≡ (68 ∷ 67 ∷ 75 ∷ 1 ∷ 0 ∷ 3 ∷ 0 ∷ 1 ∷ 0 ∷ 0 ∷ 0 ∷ 1 ∷ 0 ∷ 0 ∷ 0 ∷ 2 ∷ 0 ∷ 0 ∷ 0 ∷ 1 ∷ 0 ∷ 0 ∷ 0 ∷ 2 ∷ 0 ∷ 0 ∷ 0 ∷ 3 ∷ 0 ∷ 0 ∷ 0 ∷ 4 ∷ 0 ∷ 0 ∷ 0 ∷ 5 ∷ 0 ∷ 0 ∷ 0
+    ∷ 6 ∷ 0 ∷ 0 ∷ 0 ∷ 7 ∷ 0 ∷ 0 ∷ 0 ∷ 8 ∷ 0 ∷ 0 ∷ 0 ∷ 9 ∷ 0 ∷ 0 ∷ 0 ∷ 10 ∷ 0 ∷ 0 ∷ 0 ∷ 11 ∷ 0 ∷ 0 ∷ 0 ∷ 12 ∷ 0 ∷ 0 ∷ 0 ∷ 13 ∷ 0 ∷ 0 ∷ 0 ∷ 14 ∷ 0 ∷ 0 ∷ 0 ∷ 15 ∷ 0 ∷ 0 ∷ 0 ∷ 16 ∷ 0 ∷ 0 ∷ 0 ∷ 0 ∷ 0 ∷ 1
+    ∷ 0 ∷ 0 ∷ 0 ∷ 0 ∷ 0 ∷ 0 ∷ 0 ∷ 0 ∷ 0 ∷ 0 ∷ 0 ∷ 0 ∷ 0 ∷ 0 ∷ 0 ∷ 0 ∷ 0 ∷ 0 ∷ 0 ∷ 0 ∷ 0 ∷ 0 ∷ 0 ∷ 0 ∷ 0 ∷ 0 ∷ 0 ∷ 0 ∷ 0 ∷ 0 ∷ 0 ∷ 0 ∷ 0 ∷ 0 ∷ 0 ∷ 0 ∷ 0 ∷ 0 ∷ 0 ∷ 0 ∷ 0 ∷ 0 ∷ 0 ∷ 0 ∷ 0 ∷ 0 ∷ 0 ∷ 0 ∷ 0
+    ∷ 0 ∷ 0 ∷ 0 ∷ 0 ∷ 0 ∷ 0 ∷ 0 ∷ 0 ∷ 0 ∷ [])
 small_key_file = refl
 
--- zero pads for a pair of a session of five words
-abbrev pub zero_pads : ℕ → ℕ → Pair
-zero_pads u v = record { u = u; v = v; a = replicate 80 0; b = replicate 80 0 }
-
 -- three pairs and five words take 1944 bytes
-key_file_of_a_triangle : length (keys_bytes (record { stations = 3; words = 5; pairs = zero_pads 0 1 ∷ zero_pads 0 2 ∷ zero_pads 1 2 ∷ [] })) ≡ 1944
+key_file_of_a_triangle : length (keys_bytes (record { stations = 3; words = 5; pairs = zero_pair 5 0 1 ∷ zero_pair 5 0 2 ∷ zero_pair 5 1 2 ∷ [] })) ≡ 1944
 key_file_of_a_triangle = refl
 
 -- one station without neighbours, one word
@@ -170,7 +170,9 @@ lone_run = record {
 }
 
 -- the whole view of a net of one station
-view_of_a_lone_station : view_text lone_net lone_run ≡ text_file (codes "view 1" ∷ codes "net 1 1" ∷ codes "round 0" ∷ codes "word 0 00000000000000000000000000000000000000000000000000000000000000000000000000000000" ∷ codes "sum 00000000000000000000000000000000000000000000000000000000000000000000000000000000" ∷ codes "all" ∷ codes "got 0 00000000000000000000000000000000000000000000000000000000000000000000000000000000" ∷ [])
+view_of_a_lone_station : view_text lone_net lone_run ≡ text_file (codes "view 1" ∷ codes "net 1 1" ∷ codes "round 0"
+    ∷ codes "word 0 00000000000000000000000000000000000000000000000000000000000000000000000000000000" ∷ codes "sum 00000000000000000000000000000000000000000000000000000000000000000000000000000000"
+    ∷ codes "all" ∷ codes "got 0 00000000000000000000000000000000000000000000000000000000000000000000000000000000" ∷ [])
 unfolding view_text word_of digits
 view_of_a_lone_station = refl
 
@@ -188,29 +190,37 @@ dealt_net = record {
   keys = record {
     stations = 3;
     words = 1;
-    pairs = record { u = 0; v = 1; a = word_with 1 2; b = word_with 0 3 }
-        ∷ record { u = 0; v = 2; a = word_with 4 5; b = word_with 0 6 }
-        ∷ record { u = 1; v = 2; a = word_with 7 8; b = word_with 0 9 }
+    pairs = record { u = 0; v = 1; a = two_ends 1 2; b = two_ends 0 3 }
+        ∷ record { u = 0; v = 2; a = two_ends 4 5; b = two_ends 0 6 }
+        ∷ record { u = 1; v = 2; a = two_ends 7 8; b = two_ends 0 9 }
         ∷ [];
   };
   streams = [];
-  script = record { says = (1, word_with 10 11) ∷ []; delivery = each ((0, word_with 12 13) ∷ (2, word_with 14 15) ∷ []) } ∷ [];
+  script = record { says = (1, two_ends 10 11) ∷ []; delivery = each ((0, two_ends 12 13) ∷ (2, two_ends 14 15) ∷ []) } ∷ [];
   words = 1;
 }
 
 -- its one round
 abbrev pub dealt_run : Run
 dealt_run = record {
-  words = word_with 20 21 ∷ word_with 10 11 ∷ word_with 22 23 ∷ [];
-  sums = word_with 52 55 ∷ [];
-  delivered = word_with 12 13 ∷ word_with 14 15 ∷ [];
+  words = two_ends 20 21 ∷ two_ends 10 11 ∷ two_ends 22 23 ∷ [];
+  sums = two_ends 52 55 ∷ [];
+  delivered = two_ends 12 13 ∷ two_ends 14 15 ∷ [];
   logs = [] ∷ [] ∷ [];
   sents = [] ∷ [] ∷ [];
   pending = (1, 0) ∷ (0, 2) ∷ [];
 }
 
 -- the pads of the two honest stations do not stand in the view
-view_of_a_dealing_coalition : view_text dealt_net dealt_run ≡ text_file (codes "view 1" ∷ codes "net 3 1" ∷ codes "edge 0 1" ∷ codes "edge 0 2" ∷ codes "edge 1 2" ∷ codes "member 1" ∷ codes "first 0 1 0 00001000000000000000000000000000000000000000000000000000000000000000000000000002" ∷ codes "second 0 1 0 00000000000000000000000000000000000000000000000000000000000000000000000000000003" ∷ codes "first 1 2 0 00007000000000000000000000000000000000000000000000000000000000000000000000000008" ∷ codes "second 1 2 0 00000000000000000000000000000000000000000000000000000000000000000000000000000009" ∷ codes "round 0" ∷ codes "word 0 00014000000000000000000000000000000000000000000000000000000000000000000000000015" ∷ codes "word 1 0000a00000000000000000000000000000000000000000000000000000000000000000000000000b" ∷ codes "word 2 00016000000000000000000000000000000000000000000000000000000000000000000000000017" ∷ codes "sum 00034000000000000000000000000000000000000000000000000000000000000000000000000037" ∷ codes "each" ∷ codes "got 0 0000c00000000000000000000000000000000000000000000000000000000000000000000000000d" ∷ codes "got 2 0000e00000000000000000000000000000000000000000000000000000000000000000000000000f" ∷ [])
+view_of_a_dealing_coalition : view_text dealt_net dealt_run ≡ text_file (codes "view 1" ∷ codes "net 3 1" ∷ codes "edge 0 1" ∷ codes "edge 0 2" ∷ codes "edge 1 2" ∷ codes "member 1"
+    ∷ codes "first 0 1 0 00001000000000000000000000000000000000000000000000000000000000000000000000000002"
+    ∷ codes "second 0 1 0 00000000000000000000000000000000000000000000000000000000000000000000000000000003"
+    ∷ codes "first 1 2 0 00007000000000000000000000000000000000000000000000000000000000000000000000000008"
+    ∷ codes "second 1 2 0 00000000000000000000000000000000000000000000000000000000000000000000000000000009" ∷ codes "round 0"
+    ∷ codes "word 0 00014000000000000000000000000000000000000000000000000000000000000000000000000015" ∷ codes "word 1 0000a00000000000000000000000000000000000000000000000000000000000000000000000000b"
+    ∷ codes "word 2 00016000000000000000000000000000000000000000000000000000000000000000000000000017" ∷ codes "sum 00034000000000000000000000000000000000000000000000000000000000000000000000000037"
+    ∷ codes "each" ∷ codes "got 0 0000c00000000000000000000000000000000000000000000000000000000000000000000000000d"
+    ∷ codes "got 2 0000e00000000000000000000000000000000000000000000000000000000000000000000000000f" ∷ [])
 unfolding view_text digits
 view_of_a_dealing_coalition = refl
 
@@ -239,7 +249,7 @@ common_log = short (small_value 1) 1 ∷ short (small_value 3) 2 ∷ []
 abbrev pub honest_run : Run
 honest_run = record {
   words = [];
-  sums = zero_word ∷ word_with 3 7 ∷ word_with 1 1 ∷ word_with 2 6 ∷ zero_word ∷ [];
+  sums = zero_word ∷ two_ends 3 7 ∷ two_ends 1 1 ∷ two_ends 2 6 ∷ zero_word ∷ [];
   delivered = [];
   logs = common_log ∷ common_log ∷ common_log ∷ [];
   sents = (short (small_value 1) 1 ∷ []) ∷ (short (small_value 3) 1 ∷ []) ∷ (short (small_value 3) 1 ∷ []) ∷ [];
@@ -247,12 +257,17 @@ honest_run = record {
 }
 
 -- all logs of an ordinary session
-logs_of_three_stations : logs_text honest_net honest_run ≡ text_file (codes "station 0" ∷ codes "log short 1 000000000000000000000000000001" ∷ codes "log short 2 000000000000000000000000000003" ∷ codes "sent short 000000000000000000000000000001" ∷ codes "pending 0 0" ∷ codes "station 1" ∷ codes "log short 1 000000000000000000000000000001" ∷ codes "log short 2 000000000000000000000000000003" ∷ codes "sent short 000000000000000000000000000003" ∷ codes "pending 0 0" ∷ codes "station 2" ∷ codes "log short 1 000000000000000000000000000001" ∷ codes "log short 2 000000000000000000000000000003" ∷ codes "sent short 000000000000000000000000000003" ∷ codes "pending 0 0" ∷ [])
+logs_of_three_stations : logs_text honest_net honest_run ≡ text_file (codes "station 0" ∷ codes "log short 1 000000000000000000000000000001" ∷ codes "log short 2 000000000000000000000000000003"
+    ∷ codes "sent short 000000000000000000000000000001" ∷ codes "pending 0 0" ∷ codes "station 1" ∷ codes "log short 1 000000000000000000000000000001"
+    ∷ codes "log short 2 000000000000000000000000000003" ∷ codes "sent short 000000000000000000000000000003" ∷ codes "pending 0 0" ∷ codes "station 2"
+    ∷ codes "log short 1 000000000000000000000000000001" ∷ codes "log short 2 000000000000000000000000000003" ∷ codes "sent short 000000000000000000000000000003" ∷ codes "pending 0 0" ∷ [])
 unfolding logs_text digits
 logs_of_three_stations = refl
 
 -- its sums as `hub` and `sum` print them
-printed_sums_of_three_stations : words_text honest_run.sums ≡ text_file (codes "00000000000000000000000000000000000000000000000000000000000000000000000000000000" ∷ codes "00003000000000000000000000000000000000000000000000000000000000000000000000000007" ∷ codes "00001000000000000000000000000000000000000000000000000000000000000000000000000001" ∷ codes "00002000000000000000000000000000000000000000000000000000000000000000000000000006" ∷ codes "00000000000000000000000000000000000000000000000000000000000000000000000000000000" ∷ [])
+printed_sums_of_three_stations : words_text honest_run.sums ≡ text_file (codes "00000000000000000000000000000000000000000000000000000000000000000000000000000000"
+    ∷ codes "00003000000000000000000000000000000000000000000000000000000000000000000000000007" ∷ codes "00001000000000000000000000000000000000000000000000000000000000000000000000000001"
+    ∷ codes "00002000000000000000000000000000000000000000000000000000000000000000000000000006" ∷ codes "00000000000000000000000000000000000000000000000000000000000000000000000000000000" ∷ [])
 unfolding word_of
 printed_sums_of_three_stations = refl
 
@@ -260,7 +275,7 @@ printed_sums_of_three_stations = refl
 abbrev pub trial_run : Run
 trial_run = record {
   words = [];
-  sums = word_with 3 7 ∷ word_with 65536 65535 ∷ word_with 0 3 ∷ [];
+  sums = two_ends 3 7 ∷ two_ends 65536 65535 ∷ two_ends 0 3 ∷ [];
   delivered = [];
   logs = (short (small_value 1) 4 ∷ long (170 ∷ []) ∷ short (small_value 2) 3 ∷ []) ∷ [] ∷ [];
   sents = [] ∷ [] ∷ [];
@@ -268,12 +283,17 @@ trial_run = record {
 }
 
 -- the summary of a trial
-trial_summary : trial_text 7 2 3 trial_run ≡ text_file (codes "trial 7 2 3" ∷ codes "short 7" ∷ codes "long 1" ∷ codes "pending 3 3" ∷ codes "sum 00002000000000000000000000000000000000000000000000000000000000000000000000000008" ∷ [])
+trial_summary : trial_text 7 2 3 trial_run ≡ text_file (codes "trial 7 2 3" ∷ codes "short 7" ∷ codes "long 1" ∷ codes "pending 3 3"
+    ∷ codes "sum 00002000000000000000000000000000000000000000000000000000000000000000000000000008" ∷ [])
 unfolding trial_text word_of digits
 trial_summary = refl
 
 -- rounds with a zero word have no line
-shifts_of_two_edges : shifts_text (record { u = 0; v = 1; words = zero_word ∷ word_with 0 65533 ∷ word_with 1 5 ∷ zero_word ∷ [] } ∷ record { u = 1; v = 2; words = zero_word ∷ word_with 0 65533 ∷ word_with 1 5 ∷ zero_word ∷ [] } ∷ []) ≡ text_file (codes "shift 0 1 1 0000000000000000000000000000000000000000000000000000000000000000000000000000fffd" ∷ codes "shift 0 1 2 00001000000000000000000000000000000000000000000000000000000000000000000000000005" ∷ codes "shift 1 2 1 0000000000000000000000000000000000000000000000000000000000000000000000000000fffd" ∷ codes "shift 1 2 2 00001000000000000000000000000000000000000000000000000000000000000000000000000005" ∷ [])
+shifts_of_two_edges : shifts_text (record { u = 0; v = 1; words = zero_word ∷ two_ends 0 65533 ∷ two_ends 1 5 ∷ zero_word ∷ [] } ∷ record { u = 1; v = 2; words = zero_word ∷ two_ends 0 65533
+    ∷ two_ends 1 5 ∷ zero_word ∷ [] } ∷ []) ≡ text_file (codes "shift 0 1 1 0000000000000000000000000000000000000000000000000000000000000000000000000000fffd"
+    ∷ codes "shift 0 1 2 00001000000000000000000000000000000000000000000000000000000000000000000000000005"
+    ∷ codes "shift 1 2 1 0000000000000000000000000000000000000000000000000000000000000000000000000000fffd"
+    ∷ codes "shift 1 2 2 00001000000000000000000000000000000000000000000000000000000000000000000000000005" ∷ [])
 unfolding word_of digits
 shifts_of_two_edges = refl
 

@@ -1,9 +1,9 @@
 -- The definitions of the net on worked examples.
-use Rattle.std.proofs.Common.{◌≡◌, ℕ, ◌+◌, List, [], ◌∷◌, map, replicate, slice_set, sum_by, Option, Some, None, refl, if◌then◌else◌, ◌==◌, ◌*◌, ◌%◌, true, false}
+use Rattle.std.proofs.Common.{◌≡◌, ℕ, List, [], ◌∷◌, map, replicate, slice_set, sum_by, Option, Some, None, refl, if◌then◌else◌, ◌==◌, true, false}
 use Rattle.std.specs.List.{range_with_len}
 use Rattle.dc_spec.specs.Words.{word_of, zero_word}
 use Rattle.dc_spec.specs.Entries.{Entry, short, long, Stream}
-use Rattle.dc_spec.specs.Scripts.{all_sum, each, Turn}
+use Rattle.dc_spec.specs.Scripts.{Turn}
 use Rattle.dc_spec.specs.Pads.{Pair}
 use Rattle.dc_spec.specs.Net.{Net, Run}
 use Rattle.dc_station_rules.proofs.Computing.{computing}
@@ -18,35 +18,7 @@ use Rattle.dc_net_rules.specs.Bags.{value, text, count_in}
 use Rattle.dc_spec.specs.Frames.{hello, send}
 use Rattle.dc_net_rules.specs.SessionTexts.{says}
 use Rattle.dc_net_rules.specs.Twins.{admits, inverse, shifts, twin}
-
--- a word with this count and this last limb, zeros between
-abbrev pub counted : ℕ → ℕ → List ℕ
-counted c x = word_of (λ l. if l == 0 then c else if l == 15 then x else 0)
-
--- a value with this number below 256
-abbrev pub small : ℕ → List ℕ
-small x = slice_set (replicate 15 0) 14 x
-
--- a stream of values alone
-abbrev pub of_values : List (List ℕ) → Option Stream
-of_values values = Some (record { shorts = values; longs = []; coins = [] })
-
--- a round of a script: one member's word, the sum for all
-abbrev pub said : ℕ → List ℕ → Turn
-said i w = record { says = (i, w) ∷ []; delivery = all_sum }
-
--- a pair without pads' effect in a session of so many words
-abbrev pub zero_pair : ℕ → ℕ → ℕ → Pair
-zero_pair words u v = record { u = u; v = v; a = replicate (16 * words) 0; b = replicate (16 * words) 0 }
-
--- a pair with some pads, the first second pad 0
-abbrev pub some_pair : ℕ → ℕ → ℕ → ℕ → Pair
-some_pair words u v seed = record {
-  u = u;
-  v = v;
-  a = map (λ n. (seed * n + 3) * (n + 7) % 65537) (range_with_len 0 (16 * words));
-  b = map (λ n. (seed + n) * n % 65537) (range_with_len 0 (16 * words));
-}
+use Rattle.dc_cases.proofs.SharedValues.{two_ends, small_value, nothing, of_values, said, dealing, zero_pair, some_pair, ring, exchange, split_pair, three_stations}
 
 -- the pair whose second pad 17 alone is 1
 abbrev shifting_pair : Pair
@@ -72,34 +44,19 @@ key_without_own_round : key_word (record { u = 0; v = 1; a = replicate 32 0; b =
 unfolding word_of
 key_without_own_round = refl
 
--- a ring of four stations, the last one in the coalition, values 5 and 9 at stations 0 and 2
-abbrev ring : Net
-ring = record {
-  stations = 4;
-  edges = (0, 1) ∷ (0, 3) ∷ (1, 2) ∷ (2, 3) ∷ [];
-  coalition = 3 ∷ [];
-  keys = record { stations = 4; words = 4; pairs = some_pair 4 0 1 5 ∷ zero_pair 4 0 3 ∷ some_pair 4 1 2 8 ∷ zero_pair 4 2 3 ∷ [] };
-  streams = of_values (small 5 ∷ []) ∷ of_values [] ∷ of_values (small 9 ∷ []) ∷ None ∷ [];
-  script = said 3 zero_word ∷ said 3 zero_word ∷ said 3 zero_word ∷ said 3 zero_word ∷ [];
-  words = 4;
-}
-
--- stations 0 and 2 exchanged
-abbrev exchange : List ℕ
-exchange = 2 ∷ 1 ∷ 0 ∷ 3 ∷ []
-
 -- the ring without the coalition is the path 0, 1, 2
 parents_in_ring : parents (key_graph ring) ≡ None ∷ Some 0 ∷ Some 1 ∷ None ∷ []
 unfolding reached spreads chain
 parents_in_ring = refl
 
 -- the sums are those of the plain words: both values at once, then the smaller one
-sums_of_ring : (run_of ring).sums ≡ zero_word ∷ counted 2 14 ∷ counted 1 5 ∷ zero_word ∷ []
+sums_of_ring : (run_of ring).sums ≡ zero_word ∷ two_ends 2 14 ∷ two_ends 1 5 ∷ zero_word ∷ []
 unfolding computing rounds_of
 sums_of_ring = refl
 
 -- exchanging the streams shifts both edges of the path in the two rounds where the plain words differ
-shifts_of_ring : shifts ring exchange ≡ record { u = 0; v = 1; words = zero_word ∷ counted 0 65533 ∷ counted 1 5 ∷ zero_word ∷ [] } ∷ record { u = 1; v = 2; words = zero_word ∷ counted 0 65533 ∷ counted 1 5 ∷ zero_word ∷ [] } ∷ []
+shifts_of_ring : shifts ring exchange ≡ record { u = 0; v = 1; words = zero_word ∷ two_ends 0 65533 ∷ two_ends 1 5 ∷ zero_word ∷ [] } ∷ record { u = 1; v = 2; words = zero_word ∷ two_ends 0 65533
+    ∷ two_ends 1 5 ∷ zero_word ∷ [] } ∷ []
 unfolding computing rounds_of reached spreads chain
 shifts_of_ring = refl
 
@@ -133,29 +90,14 @@ not_joined_past_coalition : is_joined (record { stations = 3; edges = (0, 1) ∷
 unfolding reached
 not_joined_past_coalition = refl
 
--- what the coalition deals to stations 0 and 1
-abbrev pub dealt : List ℕ → List ℕ → Turn
-dealt to_0 to_1 = record { says = (2, zero_word) ∷ []; delivery = each ((0, to_0) ∷ (1, to_1) ∷ []) }
-
--- two honest stations that received 2 and 3 as symbol 15 of the first word
-abbrev split_pair : Net
-split_pair = record {
-  stations = 3;
-  edges = (0, 1) ∷ [];
-  coalition = 2 ∷ [];
-  keys = record { stations = 3; words = 2; pairs = zero_pair 2 0 1 ∷ [] };
-  streams = of_values [] ∷ of_values [] ∷ None ∷ [];
-  script = dealt (counted 0 2) (counted 0 3) ∷ dealt zero_word zero_word ∷ [];
-  words = 2;
-}
-
 -- the changes that turn the second sum into the word with 7 and 9
-steering_of_split_pair : steering_of split_pair 0 1 (counted 7 9 ∷ []) ≡ record { round = 0; symbol = 15; first = slice_set (slice_set (replicate 32 0) 16 14) 31 18; second = slice_set (slice_set (replicate 32 0) 1 65530) 16 65528 }
+steering_of_split_pair : steering_of split_pair 0 1 (two_ends 7 9 ∷ []) ≡ record { round = 0; symbol = 15; first = slice_set (slice_set (replicate 32 0) 16 14) 31 18; second =
+    slice_set (slice_set (replicate 32 0) 1 65530) 16 65528 }
 unfolding computing rounds_of power_below changes_up_to
 steering_of_split_pair = refl
 
 -- with the steered keys station 1 alone sends other words, and the second sum is the wanted one
-words_of_steered : (run_of (steered_net split_pair 0 1 (counted 7 9 ∷ []))).words ≡ zero_word ∷ zero_word ∷ zero_word ∷ zero_word ∷ counted 7 9 ∷ zero_word ∷ []
+words_of_steered : (run_of (steered_net split_pair 0 1 (two_ends 7 9 ∷ []))).words ≡ zero_word ∷ zero_word ∷ zero_word ∷ zero_word ∷ two_ends 7 9 ∷ zero_word ∷ []
 unfolding computing rounds_of power_below changes_up_to
 words_of_steered = refl
 
@@ -165,15 +107,17 @@ never_differed = refl
 
 -- an arrival of a hub of two stations
 abbrev arrival : ℕ → ℕ → ℕ → Arrival
-arrival i t x = record { station = i; round = t; word = counted 1 x }
+arrival i t x = record { station = i; round = t; word = two_ends 1 x }
 
 -- the hub refuses a second word, a round ahead, a round that is over and a station that there is not
-hub_answers : replies 2 2 (arrival 0 0 3 ∷ arrival 0 0 4 ∷ arrival 1 1 4 ∷ arrival 1 0 5 ∷ arrival 0 0 3 ∷ arrival 2 1 3 ∷ []) ≡ waiting 1 ∷ repeated (counted 1 3) ∷ ahead 0 ∷ complete (counted 2 8) ∷ old 1 ∷ no_station 2 ∷ []
+hub_answers : replies 2 2 (arrival 0 0 3 ∷ arrival 0 0 4 ∷ arrival 1 1 4 ∷ arrival 1 0 5 ∷ arrival 0 0 3 ∷ arrival 2 1 3 ∷ []) ≡ waiting 1 ∷ repeated (two_ends 1 3) ∷ ahead 0
+    ∷ complete (two_ends 2 8) ∷ old 1 ∷ no_station 2 ∷ []
 unfolding word_of round_start
 hub_answers = refl
 
 -- in the other order the same sum comes out, and after the last round every arrival of a station is over
-hub_answers_in_other_order : replies 2 2 (arrival 1 0 5 ∷ arrival 0 0 3 ∷ arrival 0 1 1 ∷ arrival 1 1 2 ∷ arrival 0 1 3 ∷ arrival 2 1 3 ∷ []) ≡ waiting 0 ∷ complete (counted 2 8) ∷ waiting 1 ∷ complete (counted 2 3) ∷ over ∷ no_station 2 ∷ []
+hub_answers_in_other_order : replies 2 2 (arrival 1 0 5 ∷ arrival 0 0 3 ∷ arrival 0 1 1 ∷ arrival 1 1 2 ∷ arrival 0 1 3 ∷ arrival 2 1 3 ∷ []) ≡ waiting 0 ∷ complete (two_ends 2 8) ∷ waiting 1
+    ∷ complete (two_ends 2 3) ∷ over ∷ no_station 2 ∷ []
 unfolding word_of round_start
 hub_answers_in_other_order = refl
 
@@ -202,30 +146,33 @@ abbrev hidden_mark : Net
 hidden_mark = triangle (of_message 1 ∷ of_message 2 ∷ None ∷ []) (said 2 (word_of (λ l. if l == 5 then 65536 else 0)) ∷ said 2 zero_word ∷ said 2 zero_word ∷ said 2 zero_word ∷ []) 4
 
 -- so both messages collide in one burst, which is void, and nothing is sent
-run_of_hidden_mark : outcome (run_of hidden_mark) ≡ (word_of (λ l. if l == 5 then 1 else 0) ∷ (2 ∷ 0 ∷ 2 ∷ 3 ∷ replicate 12 0) ∷ zero_word ∷ zero_word ∷ [], [] ∷ [] ∷ [], [] ∷ [] ∷ [], (0, 1) ∷ (0, 1) ∷ [])
+run_of_hidden_mark : outcome (run_of hidden_mark) ≡ (word_of (λ l. if l == 5 then 1 else 0) ∷ (2 ∷ 0 ∷ 2 ∷ 3 ∷ replicate 12 0) ∷ zero_word ∷ zero_word ∷ [], [] ∷ [] ∷ [], [] ∷ [] ∷ [], (0, 1)
+    ∷ (0, 1) ∷ [])
 unfolding computing rounds_of
 run_of_hidden_mark = refl
 
 -- the coalition disturbs the first split of an epoch of two values with this word
 abbrev disturbed_split : List ℕ → Net
-disturbed_split w = triangle (of_values (small 1 ∷ []) ∷ of_values (small 3 ∷ []) ∷ None ∷ []) (said 2 zero_word ∷ said 2 zero_word ∷ said 2 w ∷ said 2 zero_word ∷ said 2 zero_word ∷ []) 5
+disturbed_split w = triangle (of_values (1 ∷ []) ∷ of_values (3 ∷ []) ∷ None ∷ []) (said 2 zero_word ∷ said 2 zero_word ∷ said 2 w ∷ said 2 zero_word ∷ said 2 zero_word ∷ []) 5
 
 -- a left part of count 0 makes the epoch void, and the next cycle begins
-run_of_empty_split : outcome (run_of (disturbed_split (counted 65536 65536))) ≡ (zero_word ∷ counted 2 4 ∷ zero_word ∷ zero_word ∷ counted 2 4 ∷ [], [] ∷ [] ∷ [], [] ∷ [] ∷ [], (1, 0) ∷ (1, 0) ∷ [])
+run_of_empty_split : outcome (run_of (disturbed_split (two_ends 65536 65536))) ≡ (zero_word ∷ two_ends 2 4 ∷ zero_word ∷ zero_word ∷ two_ends 2 4 ∷ [], [] ∷ [] ∷ [], [] ∷ [] ∷ [], (1, 0) ∷ (1, 0)
+    ∷ [])
 unfolding computing rounds_of
 run_of_empty_split = refl
 
 -- so does a left part of a count above the whole's
-run_of_large_split : outcome (run_of (disturbed_split (counted 2 0))) ≡ (zero_word ∷ counted 2 4 ∷ counted 3 1 ∷ zero_word ∷ counted 2 4 ∷ [], [] ∷ [] ∷ [], [] ∷ [] ∷ [], (1, 0) ∷ (1, 0) ∷ [])
+run_of_large_split : outcome (run_of (disturbed_split (two_ends 2 0))) ≡ (zero_word ∷ two_ends 2 4 ∷ two_ends 3 1 ∷ zero_word ∷ two_ends 2 4 ∷ [], [] ∷ [] ∷ [], [] ∷ [] ∷ [], (1, 0) ∷ (1, 0) ∷ [])
 unfolding computing rounds_of
 run_of_large_split = refl
 
 -- two honest stations with the value 5, to which the coalition deals different words of an epoch
 abbrev dealt_values : Net
-dealt_values = record split_pair { streams = of_values (small 5 ∷ []) ∷ of_values (small 5 ∷ []) ∷ None ∷ []; script = dealt zero_word zero_word ∷ dealt (counted 1 5) (counted 1 6) ∷ [] }
+dealt_values = record split_pair { streams = of_values (5 ∷ []) ∷ of_values (5 ∷ []) ∷ None ∷ []; script = dealing zero_word zero_word ∷ dealing (two_ends 1 5) (two_ends 1 6) ∷ [] }
 
 -- each logs what it received, and the value counts as sent at the one station that received it
-run_of_dealt_values : outcome (run_of dealt_values) ≡ (zero_word ∷ counted 2 10 ∷ [], (short (small 5) 1 ∷ []) ∷ (short (small 6) 1 ∷ []) ∷ [], (short (small 5) 1 ∷ []) ∷ [] ∷ [], (0, 0) ∷ (1, 0) ∷ [])
+run_of_dealt_values : outcome (run_of dealt_values) ≡ (zero_word ∷ two_ends 2 10 ∷ [], (short (small_value 5) 1 ∷ []) ∷ (short (small_value 6) 1 ∷ []) ∷ [], (short (small_value 5) 1 ∷ []) ∷ [] ∷ [],
+    (0, 0) ∷ (1, 0) ∷ [])
 unfolding computing rounds_of
 run_of_dealt_values = refl
 
@@ -235,43 +182,33 @@ unfolding computing rounds_of
 dealt_values_differ = refl
 
 -- the received words, round by round and station by station
-delivered_values : (run_of dealt_values).delivered ≡ zero_word ∷ zero_word ∷ counted 1 5 ∷ counted 1 6 ∷ []
+delivered_values : (run_of dealt_values).delivered ≡ zero_word ∷ zero_word ∷ two_ends 1 5 ∷ two_ends 1 6 ∷ []
 unfolding computing rounds_of
 delivered_values = refl
 
--- a triangle with no coalition, whose stations have the values 1, 3 and 3
-abbrev ordinary : Net
-ordinary = record {
-  stations = 3;
-  edges = (0, 1) ∷ (0, 2) ∷ (1, 2) ∷ [];
-  coalition = [];
-  keys = record { stations = 3; words = 5; pairs = some_pair 5 0 1 9 ∷ some_pair 5 0 2 4 ∷ some_pair 5 1 2 11 ∷ [] };
-  streams = of_values (small 1 ∷ []) ∷ of_values (small 3 ∷ []) ∷ of_values (small 3 ∷ []) ∷ [];
-  script = replicate 5 (record { says = []; delivery = all_sum });
-  words = 5;
-}
-
 -- every station's log has the value 1 once and the value 3 twice, and each station sent its own
-run_of_ordinary : outcome (run_of ordinary) ≡ (zero_word ∷ counted 3 7 ∷ counted 1 1 ∷ counted 2 6 ∷ zero_word ∷ [], replicate 3 (short (small 1) 1 ∷ short (small 3) 2 ∷ []), (short (small 1) 1 ∷ []) ∷ (short (small 3) 1 ∷ []) ∷ (short (small 3) 1 ∷ []) ∷ [], replicate 3 (0, 0))
+run_of_three_stations : outcome (run_of three_stations) ≡ (zero_word ∷ two_ends 3 7 ∷ two_ends 1 1 ∷ two_ends 2 6 ∷ zero_word ∷ [], replicate 3 (short (small_value 1) 1 ∷ short (small_value 3) 2
+    ∷ []), (short (small_value 1) 1 ∷ []) ∷ (short (small_value 3) 1 ∷ []) ∷ (short (small_value 3) 1 ∷ []) ∷ [], replicate 3 (0, 0))
 unfolding computing rounds_of
-run_of_ordinary = refl
+run_of_three_stations = refl
 
 -- the value 3 stands as often in each log as in the sent entries of all stations together
-count_in_ordinary : sum_by (count_in (value (small 3))) (run_of ordinary).sents ∷ map (count_in (value (small 3))) (run_of ordinary).logs ≡ 2 ∷ 2 ∷ 2 ∷ 2 ∷ []
+count_in_three_stations : sum_by (count_in (value (small_value 3))) (run_of three_stations).sents ∷ map (count_in (value (small_value 3))) (run_of three_stations).logs ≡ 2 ∷ 2 ∷ 2 ∷ 2 ∷ []
 unfolding computing rounds_of
-count_in_ordinary = refl
+count_in_three_stations = refl
 
 -- a value and a message of the same bytes are two messages
 count_by_kind : map (λ m. count_in m (long (5 ∷ []) ∷ short (5 ∷ []) 3 ∷ [])) (value (5 ∷ []) ∷ text (5 ∷ []) ∷ []) ≡ 3 ∷ 1 ∷ []
 count_by_kind = refl
 
 -- a station that has received one of two words has sent its greeting and both its words
-session_of_one_word : says 0 2 2 (zero_pair 2 0 1 ∷ []) (record { shorts = []; longs = []; coins = [] }) (zero_word ∷ []) ≡ hello 0 2 2 ∷ send 0 zero_word ∷ send 1 zero_word ∷ []
+session_of_one_word : says 0 2 2 (zero_pair 2 0 1 ∷ []) nothing (zero_word ∷ []) ≡ hello 0 2 2 ∷ send 0 zero_word ∷ send 1 zero_word ∷ []
 unfolding computing rounds_of
 session_of_one_word = refl
 
 -- each of its words has the key of its own round, and after the last word that it receives it sends no further one
-session_of_both_words : says 0 2 2 (record { u = 0; v = 1; a = range_with_len 1 32; b = replicate 32 0 } ∷ []) (record { shorts = []; longs = []; coins = [] }) (zero_word ∷ zero_word ∷ []) ≡ hello 0 2 2 ∷ send 0 (range_with_len 1 16) ∷ send 1 (range_with_len 17 16) ∷ []
+session_of_both_words : says 0 2 2 (record { u = 0; v = 1; a = range_with_len 1 32; b = replicate 32 0 } ∷ []) nothing (zero_word ∷ zero_word ∷ []) ≡ hello 0 2 2 ∷ send 0 (range_with_len 1 16)
+    ∷ send 1 (range_with_len 17 16) ∷ []
 unfolding computing rounds_of
 session_of_both_words = refl
 

@@ -1,5 +1,5 @@
 -- Small sessions by computation: what each station sends, what all log, what counts as sent and what is pending.
-use Rattle.std.specs.Prelude.{◌≡◌, refl, ℕ, ◌-◌, ◌^◌, List, [], ◌∷◌, ◌++◌, map, take, replicate, ◌==◌, if◌then◌else◌}
+use Rattle.std.specs.Prelude.{◌≡◌, refl, ℕ, ◌-◌, ◌^◌, List, [], ◌∷◌, map, take, replicate, ◌==◌, if◌then◌else◌}
 use Rattle.std.specs.List.{range_with_len}
 use Rattle.dc_spec.specs.Words.{word_of, zero_word, word_sum}
 use Rattle.dc_spec.specs.Entries.{short, long, Stream}
@@ -9,10 +9,7 @@ use Rattle.dc_station_rules.specs.Bursts.{burst_of, fragment, fragment_count, vo
 use Rattle.dc_station_rules.specs.Epochs.{epoch_of, void_epoch, no_part, uneven, leaves}
 use Rattle.dc_station_rules.proofs.Computing.{computing}
 use Rattle.dc_station_rules.specs.Stations.{log_of, sent_of, pending_counts, plain_word}
-
--- symbol 0, symbol 15, and zeros between
-abbrev pub two_ends : ℕ → ℕ → List ℕ
-two_ends count last = count ∷ replicate 14 0 ++ last ∷ []
+use Rattle.dc_cases.proofs.SharedValues.{two_ends}
 
 -- a word with one symbol that is not 0
 abbrev pub one_symbol : ℕ → ℕ → List ℕ
@@ -151,7 +148,8 @@ emptied_part_sent = refl
 abbrev mean_outside : List (List ℕ)
 mean_outside = two_ends 3 9 ∷ two_ends 2 8 ∷ two_ends 1 2 ∷ []
 
-mean_outside_leaves : leaves (epoch_of mean_outside) ≡ record { value = value_of 2; times = 1; low = 0; high = 3 } ∷ record { value = value_of 6; times = 1; low = 5; high = 3 } ∷ record { value = value_of 1; times = 1; low = 4; high = last_number } ∷ []
+mean_outside_leaves : leaves (epoch_of mean_outside) ≡ record { value = value_of 2; times = 1; low = 0; high = 3 } ∷ record { value = value_of 6; times = 1; low = 5; high = 3 }
+    ∷ record { value = value_of 1; times = 1; low = 4; high = last_number } ∷ []
 unfolding computing
 mean_outside_leaves = refl
 

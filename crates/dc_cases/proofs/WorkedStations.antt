@@ -10,7 +10,8 @@ use Rattle.dc_station_rules.specs.Epochs.{epoch_of, request_after, for_root, for
 use Rattle.dc_station_rules.specs.Cycles.{place_of, in_burst}
 use Rattle.dc_station_rules.specs.Stations.{log_of, sent_of, pending_counts, plain_word}
 use Rattle.dc_station_rules.proofs.Computing.{computing}
-use Rattle.dc_cases.proofs.WorkedSessions.{two_ends, one_symbol, of_message, two_marks, sent_together}
+use Rattle.dc_cases.proofs.SharedValues.{two_ends}
+use Rattle.dc_cases.proofs.WorkedSessions.{one_symbol, of_message, two_marks, sent_together}
 
 -- a station with the message aa and the coin 5
 abbrev one_message : Stream
@@ -138,16 +139,19 @@ unfolding computing
 larger_part = refl
 
 -- what is asked for: a root first, then values up to the mean of the current group, and nothing once the epoch is whole or void
-asked_in_epoch : map (λ words. request_after (epoch_of words)) ([] ∷ (two_ends 3 7 ∷ []) ∷ (two_ends 3 7 ∷ two_ends 1 1 ∷ []) ∷ (two_ends 3 7 ∷ two_ends 1 1 ∷ two_ends 2 6 ∷ []) ∷ (two_ends 3 7 ∷ zero_word ∷ []) ∷ []) ≡ for_root ∷ for_at_most 2 ∷ for_at_most 3 ∷ for_nothing ∷ for_nothing ∷ []
+asked_in_epoch : map (λ words. request_after (epoch_of words)) ([] ∷ (two_ends 3 7 ∷ []) ∷ (two_ends 3 7 ∷ two_ends 1 1 ∷ []) ∷ (two_ends 3 7 ∷ two_ends 1 1 ∷ two_ends 2 6 ∷ [])
+    ∷ (two_ends 3 7 ∷ zero_word ∷ []) ∷ []) ≡ for_root ∷ for_at_most 2 ∷ for_at_most 3 ∷ for_nothing ∷ for_nothing ∷ []
 unfolding computing
 asked_in_epoch = refl
 
 -- a count of 256 is a group and 257 is none; a limb may be 255 times the count and no more
-judged_words : map group_of (two_ends 256 65280 ∷ two_ends 257 0 ∷ two_ends 2 510 ∷ two_ends 2 511 ∷ []) ≡ Ok (counted (two_ends 256 65280)) ∷ Err (group_count 257) ∷ Ok (counted (two_ends 2 510)) ∷ Err (group_limb 15 511) ∷ []
+judged_words : map group_of (two_ends 256 65280 ∷ two_ends 257 0 ∷ two_ends 2 510 ∷ two_ends 2 511 ∷ []) ≡ Ok (counted (two_ends 256 65280)) ∷ Err (group_count 257) ∷ Ok (counted (two_ends 2 510))
+    ∷ Err (group_limb 15 511) ∷ []
 unfolding computing
 judged_words = refl
 
 -- a limb of a part is at most that of the whole, and leaves at most 255 for each of the rest
-judged_parts : map (minus (counted (two_ends 3 600))) (counted (two_ends 2 345) ∷ counted (two_ends 2 344) ∷ counted (two_ends 3 601) ∷ []) ≡ Ok (counted (two_ends 1 255)) ∷ Err (split_limb 15 600 344) ∷ Err (split_limb 15 600 601) ∷ []
+judged_parts : map (minus (counted (two_ends 3 600))) (counted (two_ends 2 345) ∷ counted (two_ends 2 344) ∷ counted (two_ends 3 601) ∷ []) ≡ Ok (counted (two_ends 1 255))
+    ∷ Err (split_limb 15 600 344) ∷ Err (split_limb 15 600 601) ∷ []
 unfolding computing
 judged_parts = refl

@@ -10,7 +10,7 @@ use Rattle.dc_graph_rules.specs.Forests.{spreads, chain, parents, children, stat
 use Rattle.dc_net_rules.specs.Runs.{rounds_of, run_of}
 use Rattle.dc_net_rules.specs.Twins.{inverse, moved, shifts, twin}
 use Rattle.dc_station_rules.proofs.Computing.{computing}
-use Rattle.dc_cases.proofs.WorkedNetRows.{counted, small, of_values, some_pair}
+use Rattle.dc_cases.proofs.SharedValues.{two_ends, of_values, some_pair}
 
 -- a ring of four honest stations in which station 3 has two neighbours that are one step from the root
 abbrev square : KeyGraph
@@ -36,7 +36,7 @@ unfolding reached spreads chain
 below_in_open_ring = refl
 
 -- sums below the stations of the path, and the zero word at the member
-sums_in_open_ring : below_sums open_ring (counted 0 1 ∷ counted 0 2 ∷ counted 0 4 ∷ counted 0 8 ∷ []) ≡ counted 0 7 ∷ counted 0 6 ∷ counted 0 4 ∷ zero_word ∷ []
+sums_in_open_ring : below_sums open_ring (two_ends 0 1 ∷ two_ends 0 2 ∷ two_ends 0 4 ∷ two_ends 0 8 ∷ []) ≡ two_ends 0 7 ∷ two_ends 0 6 ∷ two_ends 0 4 ∷ zero_word ∷ []
 unfolding word_of reached spreads chain
 sums_in_open_ring = refl
 
@@ -54,7 +54,7 @@ three_stations edges words pairs streams = record {
 
 -- the path 0, 1, 2 of stations with the values 1, 2 and 3
 abbrev path : Net
-path = three_stations ((0, 1) ∷ (1, 2) ∷ []) 2 (some_pair 2 0 1 5 ∷ some_pair 2 1 2 8 ∷ []) (of_values (small 1 ∷ []) ∷ of_values (small 2 ∷ []) ∷ of_values (small 3 ∷ []) ∷ [])
+path = three_stations ((0, 1) ∷ (1, 2) ∷ []) 2 (some_pair 2 0 1 5 ∷ some_pair 2 1 2 8 ∷ []) (of_values (1 ∷ []) ∷ of_values (2 ∷ []) ∷ of_values (3 ∷ []) ∷ [])
 
 -- station 0 becomes 1, station 1 becomes 2, and station 2 becomes 0
 abbrev cycle : List ℕ
@@ -64,24 +64,25 @@ inverse_of_cycle : inverse cycle ≡ 2 ∷ 0 ∷ 1 ∷ []
 inverse_of_cycle = refl
 
 -- each stream goes to the station that its own becomes
-streams_of_cycle : (moved path cycle).streams ≡ of_values (small 3 ∷ []) ∷ of_values (small 1 ∷ []) ∷ of_values (small 2 ∷ []) ∷ []
+streams_of_cycle : (moved path cycle).streams ≡ of_values (3 ∷ []) ∷ of_values (1 ∷ []) ∷ of_values (2 ∷ []) ∷ []
 streams_of_cycle = refl
 
 -- the demands of the root word are -2, 1 and 1, and each child is the larger end
-shifts_of_cycle : shifts path cycle ≡ record { u = 0; v = 1; words = zero_word ∷ counted 0 65535 ∷ [] } ∷ record { u = 1; v = 2; words = zero_word ∷ counted 0 65536 ∷ [] } ∷ []
+shifts_of_cycle : shifts path cycle ≡ record { u = 0; v = 1; words = zero_word ∷ two_ends 0 65535 ∷ [] } ∷ record { u = 1; v = 2; words = zero_word ∷ two_ends 0 65536 ∷ [] } ∷ []
 unfolding computing rounds_of reached spreads chain
 shifts_of_cycle = refl
 
 -- the path 0, 2, 1, where station 1 is a child of the larger station 2
 abbrev bent_path : Net
-bent_path = three_stations ((0, 2) ∷ (1, 2) ∷ []) 4 (some_pair 4 0 2 5 ∷ some_pair 4 1 2 8 ∷ []) (of_values (small 5 ∷ []) ∷ of_values (small 9 ∷ []) ∷ of_values [] ∷ [])
+bent_path = three_stations ((0, 2) ∷ (1, 2) ∷ []) 4 (some_pair 4 0 2 5 ∷ some_pair 4 1 2 8 ∷ []) (of_values (5 ∷ []) ∷ of_values (9 ∷ []) ∷ of_values [] ∷ [])
 
 -- stations 0 and 1 exchanged
 abbrev exchange : List ℕ
 exchange = 1 ∷ 0 ∷ 2 ∷ []
 
 -- the sum below station 1 is added to the edge where it is the smaller end, and taken from the edge where station 2 is the larger end
-shifts_of_bent_path : shifts bent_path exchange ≡ record { u = 0; v = 2; words = zero_word ∷ counted 0 65533 ∷ counted 1 5 ∷ zero_word ∷ [] } ∷ record { u = 1; v = 2; words = zero_word ∷ counted 0 4 ∷ counted 65536 65532 ∷ zero_word ∷ [] } ∷ []
+shifts_of_bent_path : shifts bent_path exchange ≡ record { u = 0; v = 2; words = zero_word ∷ two_ends 0 65533 ∷ two_ends 1 5 ∷ zero_word ∷ [] } ∷ record { u = 1; v = 2; words = zero_word
+    ∷ two_ends 0 4 ∷ two_ends 65536 65532 ∷ zero_word ∷ [] } ∷ []
 unfolding computing rounds_of reached spreads chain
 shifts_of_bent_path = refl
 

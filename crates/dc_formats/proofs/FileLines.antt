@@ -24,7 +24,8 @@ lines_of_text_file (t ∷ texts) p =
     line_first t (text_file texts) (All-head IsTextLine t texts p) ∙ ap (λ lines. ended t ∷ lines) (lines_of_text_file texts (All-tail IsTextLine t texts p))
 
 -- what makes a line of bytes without their first one makes a line of them all
-with_first : (b : ℕ) (bytes : List ℕ) (lines : List Line) (texts : List (List ℕ)) → ((others : List (List ℕ)) → lines ≡ map ended others → bytes ≡ text_file others) → begun_with b lines ≡ map ended texts → b ∷ bytes ≡ text_file texts
+with_first : (b : ℕ) (bytes : List ℕ) (lines : List Line) (texts : List (List ℕ)) → ((others : List (List ℕ)) → lines ≡ map ended others → bytes ≡ text_file others) → begun_with b lines
+    ≡ map ended texts → b ∷ bytes ≡ text_file texts
 with_first b bytes [] [] rest e = absurd cc
 with_first b bytes [] (t ∷ texts) rest e = absurd cc
 with_first b bytes (ended u ∷ lines) [] rest e = absurd cc
@@ -36,7 +37,8 @@ with_first b bytes (cut_off u ∷ lines) [] rest e = absurd cc
 with_first b bytes (cut_off u ∷ lines) (t ∷ texts) rest e = absurd cc
 
 -- a line feed ends a line, which is empty where nothing stands before it
-empty_first : (bytes : List ℕ) (lines : List Line) (texts : List (List ℕ)) → ((others : List (List ℕ)) → lines ≡ map ended others → bytes ≡ text_file others) → ended [] ∷ lines ≡ map ended texts → 10 ∷ bytes ≡ text_file texts
+empty_first : (bytes : List ℕ) (lines : List Line) (texts : List (List ℕ)) → ((others : List (List ℕ)) → lines ≡ map ended others → bytes ≡ text_file others) → ended [] ∷ lines ≡ map ended texts
+    → 10 ∷ bytes ≡ text_file texts
 empty_first bytes lines [] rest e = absurd cc
 empty_first bytes lines (t ∷ texts) rest e =
     let after : bytes ≡ text_file texts = rest texts cc in

@@ -13,7 +13,8 @@ pub without_rest : (a b : List ℕ) → a ≡ b → a ++ [] ≡ b ++ []
 without_rest a b e = ap (λ t. t ++ []) e
 
 -- a list of known length
-pub read_counted : {X : Type 0} (P : X → Type 0) (f : X → List ℕ) → IsReadable P f → (xs ys : List X) (r s : List ℕ) → All P xs → All P ys → length xs ≡ length ys → flat_map f xs ++ r ≡ flat_map f ys ++ s → (xs ≡ ys) × (r ≡ s)
+pub read_counted : {X : Type 0} (P : X → Type 0) (f : X → List ℕ) → IsReadable P f → (xs ys : List X) (r s : List ℕ) → All P xs → All P ys → length xs ≡ length ys → flat_map f xs ++ r ≡ flat_map f ys
+    ++ s → (xs ≡ ys) × (r ≡ s)
 read_counted P f read [] [] r s p q n e = (refl, e)
 read_counted P f read [] (y ∷ ys) r s p q n e = absurd (omega arith)
 read_counted P f read (x ∷ xs) [] r s p q n e = absurd (omega arith)
@@ -29,7 +30,8 @@ abbrev pub Ends : {X : Type 0} → (X → Type 0) → (X → List ℕ) → List 
 Ends {X} P f r = (x : X) (t : List ℕ) → P x → r ≡ f x ++ t → ⊥
 
 -- a list up to what does not begin with a further item
-pub read_until : {X : Type 0} (P : X → Type 0) (f : X → List ℕ) → IsReadable P f → (xs ys : List X) (r s : List ℕ) → All P xs → All P ys → Ends P f r → Ends P f s → flat_map f xs ++ r ≡ flat_map f ys ++ s → (xs ≡ ys) × (r ≡ s)
+pub read_until : {X : Type 0} (P : X → Type 0) (f : X → List ℕ) → IsReadable P f → (xs ys : List X) (r s : List ℕ) → All P xs → All P ys → Ends P f r → Ends P f s → flat_map f xs ++ r ≡ flat_map f ys
+    ++ s → (xs ≡ ys) × (r ≡ s)
 read_until P f read [] [] r s p q ends ends' e = (refl, e)
 read_until P f read [] (y ∷ ys) r s p q ends ends' e = absurd (ends y _ (All-head P y ys q) (e ∙ append_assoc (f y) _ s))
 read_until P f read (x ∷ xs) [] r s p q ends ends' e = absurd (ends' x _ (All-head P x xs p) (sym e ∙ append_assoc (f x) _ r))

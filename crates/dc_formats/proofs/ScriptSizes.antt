@@ -41,7 +41,8 @@ all_differ xs ys first second apart = IsDistinct-from_apart nat_eq (xs ++ ys) di
       | inl low ↦ rw (get_or_append_left xs ys d i (omega arith), get_or_append_left xs ys d j low) (less _ _ (AllPairs-from_increasing xs first i j d lt low))
       | inr high ↦ elim (cases_lt i (length xs)) [
         | inl low ↦ rw (get_or_append_left xs ys d i low, get_or-append_right xs ys (length xs) j d refl high) (none_of ys _ (apart i d low) (j - length xs) d (omega (arith, length-append xs ys)))
-        | inr also ↦ rw (get_or-append_right xs ys (length xs) i d refl also, get_or-append_right xs ys (length xs) j d refl high) (less _ _ (AllPairs-from_increasing ys second (i - length xs) (j - length xs) d (omega arith) (omega (arith, length-append xs ys))))
+        | inr also ↦ rw (get_or-append_right xs ys (length xs) i d refl also, get_or-append_right xs ys (length xs) j d refl high) (less _ _ (AllPairs-from_increasing ys second (i - length xs)
+            (j - length xs) d (omega arith) (omega (arith, length-append xs ys))))
       ]
     ]
 
@@ -79,8 +80,10 @@ station_line_size beginning w short is =
     let text = word_text_size w.1 is.1 in
     let first : length (beginning ++ decimal w.0) ≡ length beginning + length (decimal w.0) = length-append beginning (decimal w.0) in
     let blank : length (beginning ++ decimal w.0 ++ codes " ") ≡ length (beginning ++ decimal w.0) + 1 = length-append (beginning ++ decimal w.0) (codes " ") in
-    let all : length (beginning ++ decimal w.0 ++ codes " " ++ word_text w.1) ≡ length (beginning ++ decimal w.0 ++ codes " ") + length (word_text w.1) = length-append (beginning ++ decimal w.0 ++ codes " ") (word_text w.1) in
-    let whole : length (station_word_line beginning w.0 w.1) ≡ length (beginning ++ decimal w.0 ++ codes " " ++ word_text w.1) + 1 = line_size (beginning ++ decimal w.0 ++ codes " " ++ word_text w.1) in
+    let all : length (beginning ++ decimal w.0 ++ codes " " ++ word_text w.1) ≡ length (beginning ++ decimal w.0 ++ codes " ") + length (word_text w.1) = length-append (beginning ++ decimal w.0
+        ++ codes " ") (word_text w.1) in
+    let whole : length (station_word_line beginning w.0 w.1) ≡ length (beginning ++ decimal w.0 ++ codes " " ++ word_text w.1) + 1 = line_size (beginning ++ decimal w.0 ++ codes " "
+        ++ word_text w.1) in
     omega arith
 
 -- words of stations below the limit
@@ -113,19 +116,22 @@ turn_size r turn low is fits =
     let first : length (line (codes "round " ++ decimal r)) ≤ 11 = (let whole = line_size (codes "round " ++ decimal r) in omega arith) in
     let says = station_lines_size (codes "say ") turn.says (lit≤ tt) fits.saying is.said.are_words in
     let delivers = delivery_size turn.delivery fits.receiving dealt.are_words in
-    let lines : length (line (codes "round " ++ decimal r) ++ flat_map (λ s. station_word_line (codes "say ") s.0 s.1) turn.says) ≡ length (line (codes "round " ++ decimal r)) + length (flat_map (λ s. station_word_line (codes "say ") s.0 s.1) turn.says) =
+    let lines : length (line (codes "round " ++ decimal r) ++ flat_map (λ s. station_word_line (codes "say ") s.0 s.1) turn.says) ≡ length (line (codes "round " ++ decimal r)) + length
+        (flat_map (λ s. station_word_line (codes "say ") s.0 s.1) turn.says) =
         length-append (line (codes "round " ++ decimal r)) (flat_map (λ s. station_word_line (codes "say ") s.0 s.1) turn.says) in
     let whole : length (turn_lines r turn) ≡ length (line (codes "round " ++ decimal r) ++ flat_map (λ s. station_word_line (codes "say ") s.0 s.1) turn.says) + length (delivery_lines turn.delivery) =
         length-append (line (codes "round " ++ decimal r) ++ flat_map (λ s. station_word_line (codes "say ") s.0 s.1) turn.says) (delivery_lines turn.delivery) in
     omega arith
 
 -- rounds from one on
-turns_size : (r : ℕ) (turns : List Turn) → r + length turns < 10000 → All IsTurn turns → All FitsNets turns → length (flat_map (λ t. turn_lines t.0 t.1) (enumerate_from r turns)) ≤ length turns * 22800
+turns_size : (r : ℕ) (turns : List Turn) → r + length turns < 10000 → All IsTurn turns → All FitsNets turns
+    → length (flat_map (λ t. turn_lines t.0 t.1) (enumerate_from r turns)) ≤ length turns * 22800
 turns_size r [] low are fit = omega arith
 turns_size r (turn ∷ turns) low are fit =
     let here = turn_size r turn (omega arith) (All-head IsTurn turn turns are) (All-head FitsNets turn turns fit) in
     let rest = turns_size (r + 1) turns (omega arith) (All-tail IsTurn turn turns are) (All-tail FitsNets turn turns fit) in
-    let whole : length (flat_map (λ (t : ℕ × Turn). turn_lines t.0 t.1) (enumerate_from r (turn ∷ turns))) ≡ length (turn_lines r turn) + length (flat_map (λ (t : ℕ × Turn). turn_lines t.0 t.1) (enumerate_from (r + 1) turns)) = length-append (turn_lines r turn) (flat_map (λ t. turn_lines t.0 t.1) (enumerate_from (r + 1) turns)) in
+    let whole : length (flat_map (λ (t : ℕ × Turn). turn_lines t.0 t.1) (enumerate_from r (turn ∷ turns))) ≡ length (turn_lines r turn) + length (flat_map (λ (t : ℕ × Turn). turn_lines t.0 t.1)
+        (enumerate_from (r + 1) turns)) = length-append (turn_lines r turn) (flat_map (λ t. turn_lines t.0 t.1) (enumerate_from (r + 1) turns)) in
     omega arith
 
 -- a script whose rounds fit a net is within the read limit
@@ -133,5 +139,6 @@ pub script_size : (turns : List Turn) → IsScript turns → All FitsNets turns 
 script_size turns is fit =
     let most : length turns ≤ 4096 = is.most_rounds in
     let rounds = turns_size 0 turns (omega arith) is.are_turns fit in
-    let whole : length (script_text turns) ≡ length (line (codes "dcscript 1")) + length (flat_map (λ (t : ℕ × Turn). turn_lines t.0 t.1) (enumerate_from 0 turns)) = length-append (line (codes "dcscript 1")) (flat_map (λ t. turn_lines t.0 t.1) (enumerate_from 0 turns)) in
+    let whole : length (script_text turns) ≡ length (line (codes "dcscript 1")) + length (flat_map (λ (t : ℕ × Turn). turn_lines t.0 t.1) (enumerate_from 0 turns)) =
+        length-append (line (codes "dcscript 1")) (flat_map (λ t. turn_lines t.0 t.1) (enumerate_from 0 turns)) in
     omega arith

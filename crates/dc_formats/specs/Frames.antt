@@ -12,7 +12,8 @@ tagged tag body = tag ∷ to_be_bytes w16 (length body) ++ body
 
 -- three numbers of two bytes
 abbrev pub hello_body : ℕ → ℕ → ℕ → List ℕ
-hello_body station stations words = to_be_bytes w16 station ++ to_be_bytes w16 stations ++ to_be_bytes w16 words
+hello_body station stations words =
+    to_be_bytes w16 station ++ to_be_bytes w16 stations ++ to_be_bytes w16 words
 
 -- a number of two bytes and a word
 abbrev pub round_body : ℕ → List ℕ → List ℕ

@@ -1,4 +1,5 @@
--- Key files, version 1: a head of twelve bytes, then for each pair its two stations and its pads, four bytes a symbol.
+-- Key files, version 1: a head of twelve bytes, then for each pair its two stations and its pads,
+-- four bytes a symbol.
 use Rattle.std.specs.Prelude.{ℕ, ◌+◌, ◌*◌, ◌<◌, ◌≤◌, ◌≡◌, List, [], ◌∷◌, ◌++◌, length, slice_index, slice_index_or, All, codes}
 use Rattle.std.specs.List.{flat_map}
 use Rattle.std.specs.Int.{w16, w32, to_be_bytes}
@@ -9,7 +10,9 @@ use Rattle.dc_spec.specs.Pads.{Pair, Keys}
 
 -- the two ends, the first pads, the second pads
 abbrev pub pair_bytes : Pair → List ℕ
-pair_bytes p = to_be_bytes w16 p.u ++ to_be_bytes w16 p.v ++ flat_map symbol_bytes p.a ++ flat_map symbol_bytes p.b
+pair_bytes p =
+    to_be_bytes w16 p.u ++ to_be_bytes w16 p.v ++ flat_map symbol_bytes p.a
+        ++ flat_map symbol_bytes p.b
 
 -- the letters DCK, the version, the numbers of stations, words and pairs, the pairs
 abbrev pub keys_bytes : Keys → List ℕ
@@ -17,7 +20,8 @@ keys_bytes k = codes "DCK" ++ 1 ∷ []
     ++ to_be_bytes w16 k.stations ++ to_be_bytes w16 k.words ++ to_be_bytes w32 (length k.pairs)
     ++ flat_map pair_bytes k.pairs
 
--- two of so many stations, with sixteen first and sixteen second pads for each word, the second pad of number 0 being 0
+-- two of so many stations, with sixteen first and sixteen second pads for each word, the second pad
+-- of number 0 being 0
 pub record IsPair (stations words : ℕ) (p : Pair) : Type 0 where
   pub ends : p.u < p.v
   pub within : p.v < stations
@@ -34,9 +38,12 @@ pub record IsPairBefore (p q : Pair) : Type 0 where
 
 -- the pairs are in order, and none is there twice
 abbrev pub ArePairsRising : List Pair → Type 0
-ArePairsRising ps = (i : ℕ) (d : Pair) → i + 1 < length ps → IsPairBefore (slice_index_or ps i d) (slice_index_or ps (i + 1) d)
+ArePairsRising ps =
+    (i : ℕ) (d : Pair) → i + 1 < length ps
+        → IsPairBefore (slice_index_or ps i d) (slice_index_or ps (i + 1) d)
 
--- at least one station and one word, no more than the limits of stations, words and pads, and pairs in order
+-- at least one station and one word, no more than the limits of stations, words and pads, and pairs
+-- in order
 pub record IsKeys (k : Keys) : Type 0 where
   pub some_stations : 1 ≤ k.stations
   pub most_stations : k.stations ≤ limit.most_stations

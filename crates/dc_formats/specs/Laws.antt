@@ -1,4 +1,5 @@
--- Laws of the formats: no two contents have the same bytes, texts are printable lines, and no file is longer than its read limit.
+-- Laws of the formats: no two contents have the same bytes, texts are printable lines, and no file
+-- is longer than its read limit.
 use Rattle.std.specs.Prelude.{ℕ, ◌+◌, ◌*◌, ◌<◌, ◌≤◌, ◌≡◌, List, [], length, map, All, false}
 use Rattle.dc_spec.specs.Limits as limit
 use Rattle.dc_spec.specs.Lists.{is_among}
@@ -74,7 +75,8 @@ IsWithin {C} limit IsContent spelling = (x : C) → IsContent x → length (spel
 
 -- the longest transcript has a head of 8 bytes and a word of 64 for each round and station
 abbrev pub TranscriptsAreShort : Type 0
-TranscriptsAreShort = IsWithin (8 + 64 * (limit.most_words * limit.most_stations)) IsRecorded transcript_bytes
+TranscriptsAreShort =
+    IsWithin (8 + 64 * (limit.most_words * limit.most_stations)) IsRecorded transcript_bytes
 
 -- transcripts are within their read limit
 abbrev pub TranscriptsAreWithin : Type 0
@@ -97,15 +99,19 @@ delivered_words (each dealt) = dealt
 abbrev pub stations_of : List (ℕ × List ℕ) → List ℕ
 stations_of words = map (λ w. w.0) words
 
--- a round that a net can have: its stations are below the limit, and no station both says a word and is delivered one
+-- a round that a net can have: its stations are below the limit, and no station both says a word
+-- and is delivered one
 pub record FitsNets (turn : Turn) : Type 0 where
   pub saying : All (λ i. i < limit.most_stations) (stations_of turn.says)
   pub receiving : All (λ i. i < limit.most_stations) (stations_of (delivered_words turn.delivery))
-  pub apart : All (λ i. is_among (stations_of (delivered_words turn.delivery)) i ≡ false) (stations_of turn.says)
+  pub apart : All (λ i. is_among (stations_of (delivered_words turn.delivery)) i ≡ false)
+      (stations_of turn.says)
 
 -- and scripts, where a net can have each round
 abbrev pub ScriptsAreWithin : Type 0
-ScriptsAreWithin = (turns : List Turn) → IsScript turns → All FitsNets turns → length (script_text turns) ≤ limit.script_limit
+ScriptsAreWithin =
+    (turns : List Turn) → IsScript turns → All FitsNets turns
+        → length (script_text turns) ≤ limit.script_limit
 
 -- and files of images
 abbrev pub ImagesAreWithin : Type 0
@@ -117,9 +123,11 @@ WantedWordsAreWithin = IsWithin limit.wanted_words_limit AreWanted wanted_text
 
 -- the lines of a text file are its texts, each with its end
 abbrev pub TextFilesHaveLines : Type 0
-TextFilesHaveLines = (texts : List (List ℕ)) → All IsTextLine texts → file_lines (text_file texts) ≡ map ended texts
+TextFilesHaveLines =
+    (texts : List (List ℕ)) → All IsTextLine texts → file_lines (text_file texts) ≡ map ended texts
 
 -- a file whose lines all have their end is the text file of them
 abbrev pub EndedLinesAreFile : Type 0
 EndedLinesAreFile =
-    (bytes : List ℕ) (texts : List (List ℕ)) → file_lines bytes ≡ map ended texts → bytes ≡ text_file texts
+    (bytes : List ℕ) (texts : List (List ℕ)) → file_lines bytes ≡ map ended texts
+        → bytes ≡ text_file texts

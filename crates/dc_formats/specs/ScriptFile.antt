@@ -1,4 +1,5 @@
--- Script files, version 1: a head line, then for each round its number, the words of the members and what is delivered.
+-- Script files, version 1: a head line, then for each round its number, the words of the members
+-- and what is delivered.
 use Rattle.std.specs.Prelude.{ℕ, ◌<◌, ◌≤◌, ◌≡◌, List, ◌++◌, length, map, All, codes}
 use Rattle.std.specs.List.{flat_map, enumerate_from}
 use Rattle.std.specs.List.Sorted.{IsStrictlyIncreasing}
@@ -9,7 +10,8 @@ use Rattle.dc_spec.specs.Text.{line}
 use Rattle.dc_spec.specs.Scripts.{Delivery, all_sum, each, Turn}
 use Rattle.dc_formats.specs.WordLines.{station_word_line}
 
--- one line where all stations receive the sum, else a line for each word that is delivered to a station
+-- one line where all stations receive the sum, else a line for each word that is delivered to a
+-- station
 abbrev pub delivery_lines : Delivery → List ℕ
 delivery_lines all_sum = line (codes "all")
 delivery_lines (each dealt) = flat_map (λ d. station_word_line (codes "to ") d.0 d.1) dealt
@@ -22,7 +24,8 @@ turn_lines r turn = line (codes "round " ++ decimal r)
 
 -- the head line and the rounds, numbered from 0
 abbrev pub script_text : List Turn → List ℕ
-script_text turns = line (codes "dcscript 1") ++ flat_map (λ t. turn_lines t.0 t.1) (enumerate_from 0 turns)
+script_text turns =
+    line (codes "dcscript 1") ++ flat_map (λ t. turn_lines t.0 t.1) (enumerate_from 0 turns)
 
 -- stations in rising order, each with a word
 pub record AreStationWords (dealt : List (ℕ × List ℕ)) : Type 0 where

@@ -1,4 +1,5 @@
--- Stream files: a line for each short (a value), then for each long (a message), then for each coin (a field).
+-- Stream files: a line for each short (a value), then for each long (a message), then for each coin
+-- (a field).
 use Rattle.std.specs.Prelude.{ℕ, ◌<◌, ◌≤◌, List, ◌++◌, length, All, codes}
 use Rattle.std.specs.List.{flat_map}
 use Rattle.std.specs.Fmt.{decimal}
@@ -23,7 +24,8 @@ coin_line field = line (codes "coin " ++ decimal field)
 
 -- all shorts, then all longs, then all coins
 abbrev pub stream_text : Stream → List ℕ
-stream_text s = flat_map short_line s.shorts ++ flat_map long_line s.longs ++ flat_map coin_line s.coins
+stream_text s =
+    flat_map short_line s.shorts ++ flat_map long_line s.longs ++ flat_map coin_line s.coins
 
 -- no more values, messages and coins than the limits; a coin is a field from 0 to 15
 pub record IsStream (s : Stream) : Type 0 where

@@ -1,4 +1,5 @@
--- Text files: lines of the characters from the blank to the tilde, each with a line feed at its end. Payload is hexadecimal.
+-- Text files: lines of the characters from the blank to the tilde, each with a line feed at its
+-- end. Payload is hexadecimal.
 use Rattle.std.specs.Prelude.{ℕ, ◌/◌, ◌%◌, ◌<◌, ◌≤◌, ◌≡◌, ◌==◌, if◌then◌else◌, List, [], ◌∷◌, All}
 use Rattle.std.specs.List.{flat_map}
 use Rattle.dc_spec.specs.Text.{hex_digit, line}
@@ -35,7 +36,8 @@ begun_with b (cut_off text ∷ lines) = cut_off (b ∷ text) ∷ lines
 -- the lines of any file
 abbrev pub file_lines : List ℕ → List Line
 file_lines [] = []
-file_lines (b ∷ bytes) = if b == 10 then ended [] ∷ file_lines bytes else begun_with b (file_lines bytes)
+file_lines (b ∷ bytes) =
+    if b == 10 then ended [] ∷ file_lines bytes else begun_with b (file_lines bytes)
 
 -- each number is below 256
 abbrev pub AreBytes : List ℕ → Type 0

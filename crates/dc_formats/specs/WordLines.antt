@@ -10,7 +10,8 @@ station_word_line beginning i w = line (beginning ++ decimal i ++ codes " " ++ w
 -- a beginning, the pair's two numbers and the round with a blank after each, the word
 abbrev pub pair_word_line : List ℕ → ℕ → ℕ → ℕ → List ℕ → List ℕ
 pair_word_line beginning u v r w = line
-    (beginning ++ decimal u ++ codes " " ++ decimal v ++ codes " " ++ decimal r ++ codes " " ++ word_text w)
+    (beginning ++ decimal u ++ codes " " ++ decimal v ++ codes " " ++ decimal r ++ codes " "
+        ++ word_text w)
 
 -- the items of one round, of a list that has so many items for each round
 abbrev pub items_of_round : {A : Type 0} → ℕ → ℕ → List A → List A

@@ -9,15 +9,18 @@ use Rattle.dc_graph_rules.specs.Graphs.{KeyGraph, IsKeyGraph, are_neighbours, Is
 use Rattle.dc_spec.specs.Lists.{is_among}
 use Rattle.dc_graph_rules.specs.Forests.{IsDistance, spreads, lacking, distance, root, parent, parents, chain, below_sum}
 use Rattle.dc_spec.specs.Words.{zero_word, word_sum}
-use Rattle.dc_spec.proofs.Booleans.{or_cases, or_first, or_second, and_both, test-same}
+use Rattle.std.proofs.lemmas.Bool.{and_from}
+use Rattle.dc_spec.proofs.Booleans.{or_cases, or_first, or_second, test-same}
 use Rattle.dc_spec.proofs.ListLemmas.{witness, kept_passes, passes_kept, kept_stands, below_range, from_range, in_range, filter-same, found_passes}
 use Rattle.dc_graph_rules.proofs.GraphLemmas.{neighbour_below, walk_on, reached_kept, neighbour_reached, start_reached, joined-walks}
 use Rattle.dc_graph_rules.proofs.ForestLemmas.{reached_as_filter, part-neighbours, rank_in, neighbours-comm, parent_nearer, parents_ranked}
 
 -- a walk leads from what some steps reach to what as many more steps reach as it has edges
-walk_reached : (g : KeyGraph) → IsKeyGraph g → (u steps v : ℕ) (walk : List ℕ) (w : ℕ) → is_among (reached g u steps) v ≡ true → IsWalk g v walk w → is_among (reached g u (steps + length walk)) w ≡ true
+walk_reached : (g : KeyGraph) → IsKeyGraph g → (u steps v : ℕ) (walk : List ℕ) (w : ℕ) → is_among (reached g u steps) v ≡ true → IsWalk g v walk w → is_among (reached g u (steps + length walk)) w
+    ≡ true
 unfolding reached
-walk_reached g good u steps v [] w h walks = subst (λ (z : ℕ). is_among (reached g u (steps + 0)) z ≡ true) walks (subst (λ (k : ℕ). is_among (reached g u k) v ≡ true) (let same : steps ≡ steps + 0 = omega arith in same) h)
+walk_reached g good u steps v [] w h walks = subst (λ (z : ℕ). is_among (reached g u (steps + 0)) z ≡ true) walks (subst (λ (k : ℕ). is_among (reached g u k) v ≡ true) (let same : steps ≡ steps + 0 =
+    omega arith in same) h)
 walk_reached g good u steps v (x ∷ xs) w h walks = subst (λ (k : ℕ). is_among (reached g u k) w ≡ true) (let same : suc steps + length xs ≡ steps + suc (length xs) = omega arith in same)
     (walk_reached g good u (suc steps) x xs w (neighbour_reached g good (reached g u steps) v x h walks.0) walks.1)
 
@@ -57,11 +60,13 @@ lacking_counts g u zero k w low = ((λ i less. absurd (omega arith)), (λ less. 
 lacking_counts g u (suc m) k w low =
     let rest = lacking_counts g u m (suc k) w low in
     let more = lacking (spreads g (reached g u (suc k)) m) w in
-    let split : lacking (spreads g (reached g u k) (suc m)) w ≡ cond (not (is_among (reached g u k) w)) 1 0 + more = sum_by-cons (λ ys. cond (not (is_among ys w)) 1 0) (reached g u k) (spreads g (one_step_more g (reached g u k)) m) in
+    let split : lacking (spreads g (reached g u k) (suc m)) w ≡ cond (not (is_among (reached g u k) w)) 1 0 + more = sum_by-cons (λ ys. cond (not (is_among ys w)) 1 0) (reached g u k)
+        (spreads g (one_step_more g (reached g u k)) m) in
     elim (cases_Bool (is_among (reached g u k) w)) [
       | inl there ↦ (let none = never_lacking g (reached g u (suc k)) m w low (reached_kept g (reached g u k) w low there) in
           let all : lacking (spreads g (reached g u k) (suc m)) w ≡ 0 = split ∙ ap (λ b. cond {A = ℕ} (not b) 1 0 + more) there ∙ (let last : 0 + more ≡ 0 = omega arith in last) in
-          ((λ i less. absurd (omega arith)), (λ less. subst (λ (j : ℕ). is_among (reached g u j) w ≡ true) (let same : k ≡ k + lacking (spreads g (reached g u k) (suc m)) w = omega arith in same) there), omega arith))
+          ((λ i less. absurd (omega arith)), (λ less. subst (λ (j : ℕ). is_among (reached g u j) w ≡ true) (let same : k ≡ k + lacking (spreads g (reached g u k) (suc m)) w = omega arith in
+              same) there), omega arith))
       | inr missing ↦ (let all : lacking (spreads g (reached g u k) (suc m)) w ≡ 1 + more = split ∙ ap (λ b. cond {A = ℕ} (not b) 1 0 + more) missing in
           let bound = rest.2 in (
             (λ i less. absent i missing rest.0 (omega arith)),
@@ -70,7 +75,8 @@ lacking_counts g u (suc m) k w low =
           ))
     ]
   where
-    absent : (i : ℕ) → is_among (reached g u k) w ≡ false → ((j : ℕ) → j < lacking (spreads g (reached g u (suc k)) m) w → is_among (reached g u (suc k + j)) w ≡ false) → i < 1 + lacking (spreads g (reached g u (suc k)) m) w → is_among (reached g u (k + i)) w ≡ false
+    absent : (i : ℕ) → is_among (reached g u k) w ≡ false → ((j : ℕ) → j < lacking (spreads g (reached g u (suc k)) m) w → is_among (reached g u (suc k + j)) w ≡ false)
+        → i < 1 + lacking (spreads g (reached g u (suc k)) m) w → is_among (reached g u (k + i)) w ≡ false
     absent zero missing rest less = subst (λ (j : ℕ). is_among (reached g u j) w ≡ false) (let same : k ≡ k + 0 = omega arith in same) missing
     absent (suc i) missing rest less = subst (λ (j : ℕ). is_among (reached g u j) w ≡ false) (let same : suc k + i ≡ k + suc i = omega arith in same) (rest i (omega arith))
 
@@ -90,7 +96,8 @@ distance-least g good u w low joined =
     ] in
     let walk = reached_walk g u d w there in
     let least : (other : List ℕ) → IsWalk g u other w → d ≤ length other = λ other walks. elim (cases_Bool (nat_lt (length other) d)) [
-      | inl less ↦ absurd (true≢false (sym (subst (λ (j : ℕ). is_among (reached g u j) w ≡ true) (let same : 0 + length other ≡ length other = omega arith in same) (walk_reached g good u 0 u other w (start_reached g u 0 low) walks))
+      | inl less ↦ absurd (true≢false (sym (subst (λ (j : ℕ). is_among (reached g u j) w ≡ true) (let same : 0 + length other ≡ length other = omega arith in same) (walk_reached g good u 0 u other w
+          (start_reached g u 0 low) walks))
           ∙ subst (λ (j : ℕ). is_among (reached g u j) w ≡ false) (let same : 0 + length other ≡ length other = omega arith in same) (counts.0 (length other) (ltb-true (length other) d less))))
       | inr high ↦ ltb-false (length other) d high
     ] in
@@ -106,7 +113,8 @@ first_among (y ∷ ys) x h = or_first (nat_eq y y) (is_among ys y) (eq-eqb y y r
 -- the first number of a range that passes is the least one
 first_least : (p : ℕ → Bool) (a n x : ℕ) → is_among (filter p (range_with_len a n)) x ≡ true → slice_index (filter p (range_with_len a n)) 0 ≤ x
 first_least p a zero x h = absurd (true≢false (sym h))
-first_least p a (suc n) x h = (elim (p a) as (λ b. is_among (cond b (a ∷ filter p (range_with_len (a + 1) n)) (filter p (range_with_len (a + 1) n))) x ≡ true → slice_index (cond b (a ∷ filter p (range_with_len (a + 1) n)) (filter p (range_with_len (a + 1) n))) 0 ≤ x) [
+first_least p a (suc n) x h = (elim (p a) as (λ b. is_among (cond b (a ∷ filter p (range_with_len (a + 1) n)) (filter p (range_with_len (a + 1) n))) x ≡ true
+    → slice_index (cond b (a ∷ filter p (range_with_len (a + 1) n)) (filter p (range_with_len (a + 1) n))) 0 ≤ x) [
   | true ↦ λ there. elim (or_cases (nat_eq x a) (is_among (filter p (range_with_len (a + 1) n)) x) there) [
     | inl same ↦ (let e : x ≡ a = eqb-true x a same in omega arith)
     | inr later ↦ (let low = from_range (a + 1) n x (kept_stands p (range_with_len (a + 1) n) x later) in omega arith)
@@ -169,7 +177,8 @@ nearer_neighbour : (g : KeyGraph) → IsKeyGraph g → (r w d : ℕ) → r < g.s
 unfolding reached
 nearer_neighbour g good r w d low far =
     let length_of = far.count in
-    let arrived : is_among (reached g r (suc d)) w ≡ true = subst (λ (j : ℕ). is_among (reached g r j) w ≡ true) (let same : 0 + length far.walk ≡ suc d = omega arith in same) (walk_reached g good r 0 r far.walk w (start_reached g r 0 low) far.is_walk) in
+    let arrived : is_among (reached g r (suc d)) w ≡ true = subst (λ (j : ℕ). is_among (reached g r j) w ≡ true) (let same : 0 + length far.walk ≡ suc d = omega arith in same)
+        (walk_reached g good r 0 r far.walk w (start_reached g r 0 low) far.is_walk) in
     let near = witness (λ v. nat_eq v w || are_neighbours g v w) (reached g r d) (kept_passes _ (range_with_len 0 g.stations) w arrived) in
     let edge : are_neighbours g near.0 w ≡ true = elim (or_cases (nat_eq near.0 w) (are_neighbours g near.0 w) near.2) [
       | inl same ↦ (let sooner = reached_walk g r d w (subst (λ (z : ℕ). is_among (reached g r d) z ≡ true) (eqb-true near.0 w same) near.1) in
@@ -194,7 +203,7 @@ has_parent g good w d low is =
     let near = nearer_neighbour g good (root g w) w d start.0 far in
     let step : lacking (spreads g (root g w ∷ []) g.stations) near.0 + 1 ≡ lacking (spreads g (root g w ∷ []) g.stations) w = (let at = near.3 in omega arith) in
     found_by (λ u. are_neighbours g u w && (lacking (spreads g (root g w ∷ []) g.stations) u + 1 == lacking (spreads g (root g w ∷ []) g.stations) w)) (range_with_len 0 g.stations) near.0
-    (in_range 0 g.stations near.0 zero-le (let inside = near.1 in omega arith)) (and_both _ _ near.2 (eq-eqb _ _ step))
+    (in_range 0 g.stations near.0 zero-le (let inside = near.1 in omega arith)) (and_from _ _ near.2 (eq-eqb _ _ step))
 
 -- a number is 0 or the next one of another
 zero_or_next : (n : ℕ) → (n ≡ 0) ⊎ ((d : ℕ) × (n ≡ suc d))
@@ -208,7 +217,8 @@ parent_listed g w low = get_or-map-range_with_len (parent g) 0 g.stations w w No
 -- a parent is a station of the same part
 parent_part : (g : KeyGraph) → IsKeyGraph g → (w u : ℕ) → w < g.stations → parent g w ≡ Some u → (u < g.stations) × (part g u ≡ part g w)
 parent_part g good w u low is =
-    let found = found_passes (λ u. are_neighbours g u w && (lacking (spreads g (root g w ∷ []) g.stations) u + 1 == lacking (spreads g (root g w ∷ []) g.stations) w)) (range_with_len 0 g.stations) u is in
+    let found = found_passes (λ u. are_neighbours g u w && (lacking (spreads g (root g w ∷ []) g.stations) u + 1 == lacking (spreads g (root g w ∷ []) g.stations) w))
+        (range_with_len 0 g.stations) u is in
     let edge = (and_parts (are_neighbours g u w) _ found.0).0 in
     let inside = neighbour_below g good w u (neighbours-comm g u w edge) in
     (inside, part-neighbours g good u w inside low edge)
@@ -252,7 +262,8 @@ chain_joined g good (suc k) w z low h = elim (or_cases (nat_eq z w) (is_among (o
 ]
 
 -- the sum below the root of a part is the sum of the whole part
-pub root-sum : (g : KeyGraph) → IsKeyGraph g → (demands : List (List ℕ)) (v : ℕ) → v < g.stations → below_sum (parents g) demands (root g v) ≡ word_sum (map (λ w. slice_index_or demands w zero_word) (part g v))
+pub root-sum : (g : KeyGraph) → IsKeyGraph g → (demands : List (List ℕ)) (v : ℕ) → v < g.stations → below_sum (parents g) demands (root g v) ≡ word_sum (map (λ w. slice_index_or demands w zero_word)
+    (part g v))
 root-sum g good demands v low =
     let filtered = reached_as_filter g v g.stations (omega arith) in
     let count = length-map-range_with_len (parent g) 0 g.stations in

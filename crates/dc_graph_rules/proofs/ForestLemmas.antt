@@ -11,7 +11,9 @@ use Rattle.dc_spec.proofs.WordLemmas.{symbol-word_of, word_from_symbols}
 use Rattle.dc_graph_rules.specs.Graphs.{KeyGraph, IsKeyGraph, has_edge, are_neighbours, one_step_more, reached, part}
 use Rattle.dc_spec.specs.Lists.{is_among}
 use Rattle.dc_graph_rules.specs.Forests.{spreads, lacking, root, parent, parents, chain, stations_below, is_parent, children, below_sum}
-use Rattle.dc_spec.proofs.Booleans.{or_cases, nat_eq-comm, test-same, or-comm, neither-comm, and_both}
+use Rattle.std.proofs.lemmas.Bool.{and_from}
+use Rattle.std.proofs.Math.Bool.{or_comm}
+use Rattle.dc_spec.proofs.Booleans.{or_cases, nat_eq-comm, test-same}
 use Rattle.dc_spec.proofs.ListLemmas.{kept_passes, passes_kept, below_range, nothing_found, found_passes, filter-same, any_weaker}
 use Rattle.dc_graph_rules.proofs.GraphLemmas.{joined-walks}
 use Rattle.dc_spec.proofs.SumLemmas.{sum_by-filter, sum_by-same, sum_by-plus, sum_by-zero, sum_by-guarded, sum_by-exchange, sum_by-single, sum_by-map, sum_by-mod, taken_away}
@@ -94,11 +96,13 @@ longer_chain ps rest w u v x low is missing ih =
 pub chain_meets : (ps : List (Option ℕ)) (rank : ℕ → ℕ) → AreRanked ps rank → (k w v x : ℕ) → w < length ps → rank w ≤ k →
     cond (is_among (chain ps k w) v) x 0 ≡ cond (nat_eq v w) x 0 + sum_by (λ c. cond (is_parent ps v c) (cond (is_among (chain ps k w) c) x 0) 0) (range_with_len 0 (length ps))
 unfolding chain
-chain_meets ps rank ranked zero w v x low fuel = (elim (slice_index_or ps w None) as (λ o. slice_index_or ps w None ≡ o → cond (is_among (w ∷ []) v) x 0 ≡ cond (nat_eq v w) x 0 + sum_by (λ c. cond (is_parent ps v c) (cond (is_among (w ∷ []) c) x 0) 0) (range_with_len 0 (length ps))) [
+chain_meets ps rank ranked zero w v x low fuel = (elim (slice_index_or ps w None) as (λ o. slice_index_or ps w None ≡ o → cond (is_among (w ∷ []) v) x 0 ≡ cond (nat_eq v w) x 0 + sum_by
+    (λ c. cond (is_parent ps v c) (cond (is_among (w ∷ []) c) x 0) 0) (range_with_len 0 (length ps))) [
   | None ↦ λ e. ended_chain ps w v x low e
   | Some u ↦ λ e. absurd (let less = (ranked.falls w u e).0 in omega arith)
 ]) refl
-chain_meets ps rank ranked (suc k) w v x low fuel = (elim (slice_index_or ps w None) as (λ o. slice_index_or ps w None ≡ o → cond (is_among (w ∷ option_map_or (chain ps k) o []) v) x 0 ≡ cond (nat_eq v w) x 0 + sum_by (λ c. cond (is_parent ps v c) (cond (is_among (w ∷ option_map_or (chain ps k) o []) c) x 0) 0) (range_with_len 0 (length ps))) [
+chain_meets ps rank ranked (suc k) w v x low fuel = (elim (slice_index_or ps w None) as (λ o. slice_index_or ps w None ≡ o → cond (is_among (w ∷ option_map_or (chain ps k) o []) v) x 0
+    ≡ cond (nat_eq v w) x 0 + sum_by (λ c. cond (is_parent ps v c) (cond (is_among (w ∷ option_map_or (chain ps k) o []) c) x 0) 0) (range_with_len 0 (length ps))) [
   | None ↦ λ e. ended_chain ps w v x low e
   | Some u ↦ λ e. (let less = (ranked.falls w u e).0 in
       longer_chain ps (chain ps k u) w u v x low e
@@ -119,7 +123,8 @@ below-children ps rank ranked f v low =
     let below = sum_by-filter f (λ w. meets w v) stations in
     let each = sum_by-same (λ w. cond (meets w v) (f w) 0) (λ w. cond (nat_eq w v) (f w) 0 + sum_by (λ c. cond (is_parent ps v c) (cond (meets w c) (f w) 0) 0) stations) stations
     (λ w h. let bound : w < 0 + n = below_range 0 n w h in let inside : w < n = omega arith in
-    subst (λ (b : Bool). cond (meets w v) (f w) 0 ≡ cond b (f w) 0 + sum_by (λ c. cond (is_parent ps v c) (cond (meets w c) (f w) 0) 0) stations) (nat_eq-comm v w) (chain_meets ps rank ranked n w v (f w) inside (ranked.most w))) in
+    subst (λ (b : Bool). cond (meets w v) (f w) 0 ≡ cond b (f w) 0 + sum_by (λ c. cond (is_parent ps v c) (cond (meets w c) (f w) 0) 0) stations) (nat_eq-comm v w) (chain_meets ps rank ranked n w v
+        (f w) inside (ranked.most w))) in
     let parts = sum_by-plus (λ w. cond (nat_eq w v) (f w) 0) (λ w. sum_by (λ c. cond (is_parent ps v c) (cond (meets w c) (f w) 0) 0) stations) stations in
     let own = sum_by-single f 0 n v zero-le (omega arith) in
     let turned = sum_by-exchange (λ w c. cond (is_parent ps v c) (cond (meets w c) (f w) 0) 0) stations stations in
@@ -132,10 +137,10 @@ below-children ps rank ranked f v low =
 pub neighbours-comm : (g : KeyGraph) (u w : ℕ) → are_neighbours g u w ≡ true → are_neighbours g w u ≡ true
 neighbours-comm g u w h =
     let parts = and_parts (has_edge g.edges u w) (not (is_among g.coalition u || is_among g.coalition w)) h in
-    and_both (has_edge g.edges w u) (not (is_among g.coalition w || is_among g.coalition u))
+    and_from (has_edge g.edges w u) (not (is_among g.coalition w || is_among g.coalition u))
     (any_weaker (λ (e : ℕ × ℕ). (nat_eq e.0 u && nat_eq e.1 w) || (nat_eq e.0 w && nat_eq e.1 u)) (λ (e : ℕ × ℕ). (nat_eq e.0 w && nat_eq e.1 u) || (nat_eq e.0 u && nat_eq e.1 w)) g.edges
-    (λ e. or-comm (nat_eq e.0 u && nat_eq e.1 w) (nat_eq e.0 w && nat_eq e.1 u)) parts.0)
-    (neither-comm (is_among g.coalition u) (is_among g.coalition w) parts.1)
+    (λ e. λ here. or_comm (nat_eq e.0 w && nat_eq e.1 u) (nat_eq e.0 u && nat_eq e.1 w) ∙ here) parts.0)
+    (ap not (or_comm (is_among g.coalition w) (is_among g.coalition u)) ∙ parts.1)
 
 -- the stations that some steps reach are the numbers below the count that pass some test
 pub reached_as_filter : (g : KeyGraph) (u steps : ℕ) → 0 < steps → (p : ℕ → Bool) × (reached g u steps ≡ filter p (range_with_len 0 g.stations))
@@ -149,7 +154,8 @@ part-neighbours g good u w low_u low_w edge =
     let of_u = reached_as_filter g u g.stations (omega arith) in
     let of_w = reached_as_filter g w g.stations (omega arith) in
     let stations = range_with_len 0 g.stations in
-    let across = λ (a b : ℕ) (pa : ℕ → Bool) (pb : ℕ → Bool) (is_a : part g a ≡ filter pa stations) (is_b : part g b ≡ filter pb stations) (low_a : a < g.stations) (low_b : b < g.stations) (step : are_neighbours g b a ≡ true) (x : ℕ) (there : is_among stations x ≡ true) (h : pa x ≡ true).
+    let across = λ (a b : ℕ) (pa : ℕ → Bool) (pb : ℕ → Bool) (is_a : part g a ≡ filter pa stations) (is_b : part g b ≡ filter pb stations) (low_a : a < g.stations) (low_b : b < g.stations)
+        (step : are_neighbours g b a ≡ true) (x : ℕ) (there : is_among stations x ≡ true) (h : pa x ≡ true).
     let walk = (joined-walks g good a x low_a).0 (subst (λ (xs : List ℕ). is_among xs x ≡ true) (sym is_a) (passes_kept pa stations x there h)) in
     kept_passes pb stations x (subst (λ (xs : List ℕ). is_among xs x ≡ true) is_b ((joined-walks g good b x low_b).1 (a ∷ walk.0, (step, walk.1)))) in
     of_u.1 ∙ filter-same of_u.0 of_w.0 stations (λ x there. test-same (of_u.0 x) (of_w.0 x)
@@ -212,7 +218,8 @@ sums-meet_demands g good demands v low good_word =
     ∙ ap (λ s. s % 65537) (sum_by-map (λ w. slice_index w l) (λ w. slice_index_or demands w zero_word) (stations_below ps c)) in
     let kids : (l : ℕ) → l < 16 → slice_index (word_sum (map (below_sum ps demands) (children ps v))) l ≡ sum_by (λ c. below l c % 65537) (children ps v) % 65537 = λ l inside.
     symbol-word_of (λ k. sum_by (λ w. slice_index w k) (map (below_sum ps demands) (children ps v)) % 65537) l inside
-    ∙ ap (λ s. s % 65537) (sum_by-map (λ w. slice_index w l) (below_sum ps demands) (children ps v) ∙ sum_by-same (λ c. slice_index (below_sum ps demands c) l) (λ c. below l c % 65537) (children ps v) (λ c h. each l c inside)) in
+    ∙ ap (λ s. s % 65537) (sum_by-map (λ w. slice_index w l) (below_sum ps demands) (children ps v) ∙ sum_by-same (λ c. slice_index (below_sum ps demands c) l) (λ c. below l c % 65537)
+        (children ps v) (λ c h. each l c inside)) in
     sym (word_from_symbols (λ l. (slice_index (below_sum ps demands v) l + (65537 - slice_index (word_sum (map (below_sum ps demands) (children ps v))) l)) % 65537)
     (slice_index_or demands v zero_word) good_word.sixteen
     (λ l inside.

@@ -6,11 +6,12 @@ use Rattle.std.proofs.lemmas.Bool.{and_parts}
 use Rattle.dc_graph_rules.specs.Graphs.{KeyGraph, IsKeyGraph, are_neighbours}
 use Rattle.dc_graph_rules.specs.Forests.{distance, root, parent}
 use Rattle.dc_graph_rules.specs.Laws.{IsLeastNearer, ParentsAreLeastNearer}
-use Rattle.dc_spec.proofs.Booleans.{or_first, and_both}
+use Rattle.std.proofs.lemmas.Bool.{and_from}
+use Rattle.dc_spec.proofs.Booleans.{or_first}
 use Rattle.dc_spec.proofs.ListLemmas.{found_passes}
 use Rattle.dc_graph_rules.proofs.ForestLemmas.{rank_in}
-use Rattle.dc_spec.proofs.Options.{some-inj}
 use Rattle.dc_graph_rules.proofs.DistanceLemmas.{never_lacking, has_parent, at_root}
+use Rattle.dc_spec.proofs.Options.{some-inj}
 
 -- nothing before what a search finds passes the test
 found_first : (p : ℕ → Bool) (a n x w : ℕ) → find p (range_with_len a n) ≡ Some x → a ≤ w → w < x → p w ≡ false
@@ -37,7 +38,7 @@ parent-least g v u is =
     record {
       neighbour = tests.0;
       nearer = eqb-true _ _ tests.1;
-      least = λ w less neighbour nearer. true≢false (sym (and_both _ _ neighbour (eq-eqb _ _ nearer)) ∙ found_first (is_nearer g v) 0 g.stations u w is (omega arith) less);
+      least = λ w less neighbour nearer. true≢false (sym (and_from _ _ neighbour (eq-eqb _ _ nearer)) ∙ found_first (is_nearer g v) 0 g.stations u w is (omega arith) less);
     }
 
 -- a station without a parent is at distance 0

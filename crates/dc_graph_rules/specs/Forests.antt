@@ -1,4 +1,5 @@
--- The forest of the honest parts: distances along honest edges, roots, parents, and the sums of demands below a station.
+-- The forest of the honest parts: distances along honest edges, roots, parents, and the sums of
+-- demands below a station.
 use Rattle.std.specs.Prelude.{ℕ, zero, suc, ◌+◌, ◌==◌, ◌&&◌, not, if◌then◌else◌, List, [], ◌∷◌, map, filter, find, count_by, nat_eq, Bool, slice_index, slice_index_or, Option, None, length, ◌≡◌, ◌≤◌, false}
 use Rattle.std.specs.List.{range_with_len}
 use Rattle.std.specs.Option.{option_map_or}
@@ -18,23 +19,26 @@ unfoldable pub spreads : KeyGraph → List ℕ → ℕ → List (List ℕ)
 spreads g from zero = []
 spreads g from (suc more) = from ∷ spreads g (one_step_more g from) more
 
--- how many of these lists lack a station
+-- how many of these lists do not have a station
 abbrev pub lacking : List (List ℕ) → ℕ → ℕ
 lacking lists v = count_by (λ xs. not (is_among xs v)) lists
 
--- the distance of two joined stations
+-- the distance of two joined stations: v is not among the stations reached from u by 0, 1, .. d - 1
+-- steps, and is among those reached by d steps and more, so the lists without v are as many as d
 abbrev pub distance : KeyGraph → ℕ → ℕ → ℕ
 distance g u v = lacking (spreads g (u ∷ []) g.stations) v
 
--- the root of a station's part: its least station, which stands first
+-- the root of a station's part: its least station, which is the first of the list
 abbrev pub root : KeyGraph → ℕ → ℕ
 root g v = slice_index (part g v) 0
 
--- the parent of a station: its least neighbour that is one step nearer to the root; roots and members have none
+-- the parent of a station: its least neighbour that is one step nearer to the root; roots and
+-- members have none
 abbrev pub parent : KeyGraph → ℕ → Option ℕ
 parent g v =
     let near = spreads g (root g v ∷ []) g.stations in
-    find (λ u. are_neighbours g u v && (lacking near u + 1 == lacking near v)) (range_with_len 0 g.stations)
+    let is_nearer : ℕ → Bool = λ u. are_neighbours g u v && (lacking near u + 1 == lacking near v) in
+    find is_nearer (range_with_len 0 g.stations)
 
 -- the parents of all stations
 abbrev pub parents : KeyGraph → List (Option ℕ)
@@ -45,9 +49,10 @@ unfoldable pub chain : List (Option ℕ) → ℕ → ℕ → List ℕ
 chain ps zero v = v ∷ []
 chain ps (suc steps) v = v ∷ option_map_or (chain ps steps) (slice_index_or ps v None) []
 
--- the stations below v, by the parents of all: v and all stations whose chain of parents meets v
+-- the stations below v, by the parents of all: v and the stations from which parents lead to v
 abbrev pub stations_below : List (Option ℕ) → ℕ → List ℕ
-stations_below ps v = filter (λ w. is_among (chain ps (length ps) w) v) (range_with_len 0 (length ps))
+stations_below ps v =
+    filter (λ w. is_among (chain ps (length ps) w) v) (range_with_len 0 (length ps))
 
 -- whether u is the parent of a station
 abbrev pub is_parent : List (Option ℕ) → ℕ → ℕ → Bool
@@ -59,8 +64,12 @@ children ps v = filter (is_parent ps v) (range_with_len 0 (length ps))
 
 -- the sum of the demands of the stations below v
 abbrev pub below_sum : List (Option ℕ) → List (List ℕ) → ℕ → List ℕ
-below_sum ps demands v = word_sum (map (λ w. slice_index_or demands w zero_word) (stations_below ps v))
+below_sum ps demands v =
+    word_sum (map (λ w. slice_index_or demands w zero_word) (stations_below ps v))
 
 -- the sums below all stations, the zero word at each member
 abbrev pub below_sums : KeyGraph → List (List ℕ) → List (List ℕ)
-below_sums g demands = let ps = parents g in map (λ v. if is_among g.coalition v then zero_word else below_sum ps demands v) (range_with_len 0 g.stations)
+below_sums g demands =
+    let ps = parents g in
+    map (λ v. if is_among g.coalition v then zero_word else below_sum ps demands v)
+        (range_with_len 0 g.stations)

@@ -1,13 +1,13 @@
-//! Laws of the key graph and its forest: functions that do nothing, whose contracts are the laws.
+//! Laws of the key graph and its forest. The functions do nothing; each one's contract is a law.
 
 ghost use Rattle.dc_graph_rules.specs.Laws.{JoinedByWalks, DistanceIsLeast, RootIsLeast, ParentsAreLeastNearer, SumsMeetDemands, RootSumIsPartSum};
 
-/// Stations that are joined as it is computed are those that a walk along honest edges joins.
+/// The test whether two stations are joined is right: a walk along honest edges joins them.
 pub fn joined_by_walks()
     ensures { JoinedByWalks }
 {}
 
-/// The distance as it is computed is that of the shortest walk.
+/// The computed distance is the number of edges of a shortest walk.
 pub fn distance_is_least()
     ensures { DistanceIsLeast }
 {}

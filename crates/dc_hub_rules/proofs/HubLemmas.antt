@@ -28,7 +28,8 @@ none_or_some (Some x) = inr (x, refl)
 -- what a search from a place finds stands there and passes
 position_stands : {X : Type 0} (p : X → Bool) (s : ℕ) (xs : List X) (k : ℕ) → position_from p s xs ≡ Some k → (i : ℕ) × (x : X) × (k ≡ s + i) × (slice_get xs i ≡ Some x) × (p x ≡ true)
 position_stands p s [] k h = absurd (none_some k _ h refl)
-position_stands p s (x ∷ xs) k h = (elim (p x) as (λ b. p x ≡ b → cond b (Some s) (position_from p (s + 1) xs) ≡ Some k → (i : ℕ) × (y : _) × (k ≡ s + i) × (slice_get (x ∷ xs) i ≡ Some y) × (p y ≡ true)) [
+position_stands p s (x ∷ xs) k h = (elim (p x) as (λ b. p x ≡ b → cond b (Some s) (position_from p (s + 1) xs) ≡ Some k → (i : ℕ) × (y : _) × (k ≡ s + i) × (slice_get (x ∷ xs) i ≡ Some y)
+    × (p y ≡ true)) [
   | true ↦ λ e found. (0, x, (let same = same_some s k found in omega arith), refl, e)
   | false ↦ λ e later. (let rest = position_stands p (s + 1) xs k later in (suc rest.0, rest.1, (let at = rest.2 in omega arith), rest.3, rest.4))
 ]) refl h
@@ -56,12 +57,6 @@ slice_get-drop xs zero i j e = ap (slice_get xs) (let same : i ≡ j = omega ari
 slice_get-drop [] (suc s) i j e = refl
 slice_get-drop (x ∷ xs) (suc s) i zero e = absurd (omega arith)
 slice_get-drop (x ∷ xs) (suc s) i (suc j) e = slice_get-drop xs s i j (omega arith)
-
--- an item stays in its place when others come behind
-slice_get-kept : {X : Type 0} (xs more : List X) (i : ℕ) (x : X) → slice_get xs i ≡ Some x → slice_get (xs ++ more) i ≡ Some x
-slice_get-kept [] more i x h = absurd (none_some x _ h refl)
-slice_get-kept (y ∷ ys) more zero x h = h
-slice_get-kept (y ∷ ys) more (suc i) x h = slice_get-kept ys more i x h
 
 -- an item of a list with one more at its end is one of the list or the last
 slice_get-push : {X : Type 0} (xs : List X) (a : X) (i : ℕ) (x : X) → slice_get (xs ++ a ∷ []) i ≡ Some x → (slice_get xs i ≡ Some x) ⊎ ((i ≡ length xs) × (a ≡ x))
@@ -144,7 +139,9 @@ last_place h most m (x ∷ xs) low below = elim (none_or_some (h x)) [
 
 -- a round that has an end has all places
 end_full : (n : ℕ) (xs : List Arrival) (t from s : ℕ) → end_from n xs t from ≡ Some s → (length (places n xs from t) ≡ n) × (fold (λ m place. max m (place + 1)) from (places n xs from t) ≡ s)
-end_full n xs t from s h = (elim (length (places n xs from t) == n) as (λ b. length (places n xs from t) == n ≡ b → (if b then Some (fold (λ m place. max m (place + 1)) from (places n xs from t)) else None) ≡ Some s → (length (places n xs from t) ≡ n) × (fold (λ m place. max m (place + 1)) from (places n xs from t) ≡ s)) [
+end_full n xs t from s h = (elim (length (places n xs from t) == n) as (λ b. length (places n xs from t) == n ≡ b
+    → (if b then Some (fold (λ m place. max m (place + 1)) from (places n xs from t)) else None) ≡ Some s → (length (places n xs from t) ≡ n)
+    × (fold (λ m place. max m (place + 1)) from (places n xs from t) ≡ s)) [
   | true ↦ λ e found. (eqb-true (length (places n xs from t)) n e, same_some _ s found)
   | false ↦ λ e missing. absurd (none_some s _ missing refl)
 ]) refl h
@@ -167,7 +164,8 @@ end_kept n xs more t from s h =
 -- it is no place past the arrivals
 end_within : (n : ℕ) (xs : List Arrival) (t from s : ℕ) → from ≤ length xs → end_from n xs t from ≡ Some s → s ≤ length xs
 end_within n xs t from s low h =
-    let bound = last_place (λ i. first_arrival xs from i t) (length xs) from (range_with_len 0 n) low (λ i k found. let stands = place_stands xs from i t k found in slice_get_within xs k stands.0 stands.1) in
+    let bound = last_place (λ i. first_arrival xs from i t) (length xs) from (range_with_len 0 n) low (λ i k found. let stands = place_stands xs from i t k found in
+        slice_get_within xs k stands.0 stands.1) in
     let is = (end_full n xs t from s h).1 in
     omega arith
 
@@ -208,7 +206,8 @@ none_complete : (n : ℕ) (xs : List Arrival) (t d : ℕ) → round_start n xs t
 none_complete n xs t zero none = ap (round_start n xs) (let same : t + 0 ≡ t = omega arith in same) ∙ none
 none_complete n xs t (suc d) none = elim (none_or_some (round_start n xs (t + suc d))) [
   | inl still ↦ still
-  | inr some ↦ absurd (let before = start_before n xs (t + d) some.0 (ap (round_start n xs) (let same : suc (t + d) ≡ t + suc d = omega arith in same) ∙ some.1) in none_some before.0 _ before.1 (none_complete n xs t d none))
+  | inr some ↦ absurd (let before = start_before n xs (t + d) some.0 (ap (round_start n xs) (let same : suc (t + d) ≡ t + suc d = omega arith in same) ∙ some.1) in
+      none_some before.0 _ before.1 (none_complete n xs t d none))
 ]
 
 -- a test that fails from some number on passes for no more numbers than are below it
@@ -232,7 +231,8 @@ unfolding round_start
 progress_began n rounds xs zero is = (0, refl)
 progress_began n rounds xs (suc c) is = elim (none_or_some (round_start n xs (suc c))) [
   | inr some ↦ some
-  | inl none ↦ absurd (let most = count_at_most (is_complete n xs) c 0 rounds (λ t low. ap is_some (ap (round_start n xs) (let same : t + 1 ≡ suc c + (t - c) = omega arith in same) ∙ none_complete n xs (suc c) (t - c) none)) in omega arith)
+  | inl none ↦ absurd (let most = count_at_most (is_complete n xs) c 0 rounds (λ t low. ap is_some (ap (round_start n xs) (let same : t + 1 ≡ suc c + (t - c) = omega arith in same)
+      ∙ none_complete n xs (suc c) (t - c) none)) in omega arith)
 ]
 
 -- each arrival came when its round had begun
@@ -266,7 +266,8 @@ taken_new n rounds before a h =
     let now = complete_rounds n rounds before in
     step (nat_le n a.station) (now == rounds) (nat_lt a.round now) (nat_lt now a.round) (accepted n before a.station now) refl refl refl h
   where
-    last : (o : Option (List ℕ)) → accepted n before a.station (complete_rounds n rounds before) ≡ o → is_taken (reply_now n before a o) ≡ true → nat_lt a.round (complete_rounds n rounds before) ≡ false → nat_lt (complete_rounds n rounds before) a.round ≡ false → IsNew n rounds before a
+    last : (o : Option (List ℕ)) → accepted n before a.station (complete_rounds n rounds before) ≡ o → is_taken (reply_now n before a o) ≡ true → nat_lt a.round (complete_rounds n rounds before)
+        ≡ false → nat_lt (complete_rounds n rounds before) a.round ≡ false → IsNew n rounds before a
     last (Some kept) is taken low high = absurd (true≢false (sym taken))
     last None is taken low high =
         let not_below = ltb-false a.round (complete_rounds n rounds before) low in
@@ -274,8 +275,10 @@ taken_new n rounds before a h =
         let same : complete_rounds n rounds before ≡ a.round = omega arith in
         record { now = same; none = ap (accepted n before a.station) (sym same) ∙ is }
 
-    step : (b c d e : Bool) (o : Option (List ℕ)) → nat_lt a.round (complete_rounds n rounds before) ≡ d → nat_lt (complete_rounds n rounds before) a.round ≡ e → accepted n before a.station (complete_rounds n rounds before) ≡ o →
-        is_taken (if b then no_station a.station else if c then over else if d then old (complete_rounds n rounds before) else if e then ahead (complete_rounds n rounds before) else reply_now n before a o) ≡ true → IsNew n rounds before a
+    step : (b c d e : Bool) (o : Option (List ℕ)) → nat_lt a.round (complete_rounds n rounds before) ≡ d → nat_lt (complete_rounds n rounds before) a.round ≡ e
+        → accepted n before a.station (complete_rounds n rounds before) ≡ o →
+        is_taken (if b then no_station a.station else if c then over else if d then old (complete_rounds n rounds before) else if e then ahead
+            (complete_rounds n rounds before) else reply_now n before a o) ≡ true → IsNew n rounds before a
     step true c d e o is_d is_e is_o taken = absurd (true≢false (sym taken))
     step false true d e o is_d is_e is_o taken = absurd (true≢false (sym taken))
     step false false true e o is_d is_e is_o taken = absurd (true≢false (sym taken))
@@ -315,7 +318,8 @@ new_single n rounds before a timely single new = record {
         none_some word.0 _ word.1 (ap (λ i. accepted n before i b.round) station ∙ ap (accepted n before a.station) round ∙ new.none)
 
 -- where no arrival is refused, all came in time and none repeats another
-taken_good : (n rounds : ℕ) (before more : List Arrival) → AreInTime n before → AreSingle before → list_all is_taken (replies_after n rounds before more) ≡ true → AreInTime n (before ++ more) × AreSingle (before ++ more)
+taken_good : (n rounds : ℕ) (before more : List Arrival) → AreInTime n before → AreSingle before → list_all is_taken (replies_after n rounds before more) ≡ true → AreInTime n (before ++ more)
+    × AreSingle (before ++ more)
 taken_good n rounds before [] timely single h = (subst (AreInTime n) (sym (append-nil before)) timely, subst AreSingle (sym (append-nil before)) single)
 taken_good n rounds before (a ∷ more) timely single h =
     let tests = and_parts (is_taken (reply n rounds before a)) (list_all is_taken (replies_after n rounds (before ++ a ∷ []) more)) h in
@@ -353,7 +357,8 @@ ended_too n xs ys moved timely (suc t) s h =
     (fold (λ m place. max m (place + 1)) began.0 (places n ys began.0 t), start_after n ys t began.0 _ began.1 (full_end n ys t began.0 (full ∙ count)))
 
 -- the accepted word of a station in a complete round stands in the list
-accepted_stands : (n : ℕ) (xs : List Arrival) (t s i : ℕ) → round_start n xs (suc t) ≡ Some s → is_among (range_with_len 0 n) i ≡ true → (q : ℕ) × (a : Arrival) × (slice_get xs q ≡ Some a) × (a.station ≡ i) × (a.round ≡ t) × (accepted n xs i t ≡ Some a.word)
+accepted_stands : (n : ℕ) (xs : List Arrival) (t s i : ℕ) → round_start n xs (suc t) ≡ Some s → is_among (range_with_len 0 n) i ≡ true → (q : ℕ) × (a : Arrival) × (slice_get xs q ≡ Some a)
+    × (a.station ≡ i) × (a.round ≡ t) × (accepted n xs i t ≡ Some a.word)
 accepted_stands n xs t s i h there =
     let before = start_before n xs t s h in
     let place = end_places n xs t before.0 s i before.2 there in
@@ -391,7 +396,9 @@ broadcasts-agree n rounds xs ys moved taken_x taken_y t =
     ]
   where
     nothing : (zs : List Arrival) → round_start n zs (suc t) ≡ None → broadcast n zs t ≡ None
-    nothing zs none = ap (λ k. if is_some (round_start n zs k) then Some (accepted_sum n zs t) else None) (let same : t + 1 ≡ suc t = omega arith in same) ∙ ap (λ o. if is_some o then Some (accepted_sum n zs t) else None) none
+    nothing zs none = ap (λ k. if is_some (round_start n zs k) then Some (accepted_sum n zs t) else None) (let same : t + 1 ≡ suc t = omega arith in same)
+        ∙ ap (λ o. if is_some o then Some (accepted_sum n zs t) else None) none
 
     something : (zs : List Arrival) (s : ℕ) → round_start n zs (suc t) ≡ Some s → broadcast n zs t ≡ Some (accepted_sum n zs t)
-    something zs s some = ap (λ k. if is_some (round_start n zs k) then Some (accepted_sum n zs t) else None) (let same : t + 1 ≡ suc t = omega arith in same) ∙ ap (λ o. if is_some o then Some (accepted_sum n zs t) else None) some
+    something zs s some = ap (λ k. if is_some (round_start n zs k) then Some (accepted_sum n zs t) else None) (let same : t + 1 ≡ suc t = omega arith in same)
+        ∙ ap (λ o. if is_some o then Some (accepted_sum n zs t) else None) some

@@ -1,8 +1,8 @@
-//! The law of arrivals: functions that do nothing, whose contracts are the laws.
+//! The law of arrivals. The function does nothing; its contract is the law.
 
 ghost use Rattle.dc_hub_rules.specs.Laws.{BroadcastsAgree};
 
-/// The order in which a hub's arrivals come changes no broadcast, where none is refused.
+/// The order in which words arrive at a hub changes no broadcast, where none is refused.
 pub fn broadcasts_agree()
     ensures { BroadcastsAgree }
 {}

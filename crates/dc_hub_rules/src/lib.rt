@@ -1,4 +1,4 @@
-//! The hub as definitions: which arrivals it accepts and what it answers.
+//! The hub as definitions: which arrivals it accepts and what it replies.
 #![tactic(auto)]
 
 mod laws;

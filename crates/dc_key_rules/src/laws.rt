@@ -1,4 +1,4 @@
-//! The law of keys: functions that do nothing, whose contracts are the laws.
+//! The law of keys. The function does nothing; its contract is the law.
 
 ghost use Rattle.dc_key_rules.specs.Laws.{KeysCancel};
 

@@ -32,7 +32,8 @@ alike_in : (net : Net) (round : Round) → IsTrue (is_alike_in net round) ↔ Is
 alike_in net round =
     let honest = honest_stations net in (
       λ all i j honest_i honest_j. (bytes_eq-Decides (word_of_station round.received i) (word_of_station round.received j)).0 (all_at _ honest (all_at _ honest all i honest_i) j honest_j),
-      λ alike. all_from _ honest (λ i honest_i. all_from _ honest (λ j honest_j. (bytes_eq-Decides (word_of_station round.received i) (word_of_station round.received j)).1 (alike i j honest_i honest_j))),
+      λ alike. all_from _ honest (λ i honest_i. all_from _ honest (λ j honest_j. (bytes_eq-Decides (word_of_station round.received i) (word_of_station round.received j)).1
+          (alike i j honest_i honest_j))),
     )
 
 -- a run is alike
@@ -61,7 +62,8 @@ distinct_pairs : (p : List ℕ) → are_distinct p ≡ true → AllPairs (λ i j
 distinct_pairs [] apart = λ i j d lt within. absurd (omega arith)
 distinct_pairs (x ∷ xs) apart =
     let parts = and_parts _ _ apart in
-    AllPairs-cons (λ i j. i ≢ j) x xs (λ k d low same. true≢false (sym (subst (λ (z : ℕ). is_among xs z ≡ true) (sym same) (stands xs k d low)) ∙ not-true (is_among xs x) parts.0)) (distinct_pairs xs parts.1)
+    AllPairs-cons (λ i j. i ≢ j) x xs (λ k d low same. true≢false (sym (subst (λ (z : ℕ). is_among xs z ≡ true) (sym same) (stands xs k d low)) ∙ not-true (is_among xs x) parts.0))
+        (distinct_pairs xs parts.1)
 
 pairs_distinct : (p : List ℕ) → AllPairs (λ i j. i ≢ j) p → are_distinct p ≡ true
 pairs_distinct [] apart = refl
@@ -80,7 +82,8 @@ permutation_computed n p = (
     stations = λ k d low. ltb-true (get_or p k d) n (AllPass-from_list_all (λ image. nat_lt image n) p more.0 k d low);
     distinct = distinct_pairs p more.1;
   }),
-  λ is. and_from _ _ (eq-eqb (length p) n is.count) (and_from _ _ (list_all-from_AllPass (λ image. nat_lt image n) p (λ k d low. lt-ltb (get_or p k d) n (is.stations k d low))) (pairs_distinct p is.distinct)),
+  λ is. and_from _ _ (eq-eqb (length p) n is.count) (and_from _ _ (list_all-from_AllPass (λ image. nat_lt image n) p (λ k d low. lt-ltb (get_or p k d) n (is.stations k d low)))
+      (pairs_distinct p is.distinct)),
 )
 
 -- an admitted permutation
@@ -91,5 +94,6 @@ admits_is_computed net p good =
         permutation = (permutation_computed n p).0 parts.0;
         joined = λ i low. (joined-walks (key_graph net) good i (slice_index p i) low).0 (all_at _ (range_with_len 0 n) parts.1 i (in_range 0 n i zero-le (omega arith)));
       }),
-      λ is. and_from _ _ ((permutation_computed n p).1 is.permutation) (all_from _ (range_with_len 0 n) (λ i there. (let low : i < 0 + n = below_range 0 n i there in (joined-walks (key_graph net) good i (slice_index p i) (omega arith)).1 (is.joined i (omega arith))))),
+      λ is. and_from _ _ ((permutation_computed n p).1 is.permutation) (all_from _ (range_with_len 0 n) (λ i there. (let low : i < 0 + n = below_range 0 n i there in
+          (joined-walks (key_graph net) good i (slice_index p i) (omega arith)).1 (is.joined i (omega arith))))),
     )

@@ -29,8 +29,10 @@ same_rest : (k x y : ℕ) → (k + x) % 65537 ≡ (k + y) % 65537 → x % 65537 
 same_rest k x y same = omega arith
 
 -- what the changes add at a symbol, of which those before one place are known
-added : (cu cv y known : List ℕ) (n j : ℕ) → AreSymbols cu → j + first_difference cu cv ≡ n → steered_from (first_difference cu cv) ≤ n → length known ≡ j → ((i : ℕ) → i < j → slice_index y i ≡ slice_index known i) →
-    steered_symbol cu cv y n ≡ (sum_by (λ k. slice_index known (n - k) * difference_at cu cv k) (range_with_len 0 (16 * (n / 16))) + slice_index y j * difference_at cu cv (first_difference cu cv)) % 65537
+added : (cu cv y known : List ℕ) (n j : ℕ) → AreSymbols cu → j + first_difference cu cv ≡ n → steered_from (first_difference cu cv) ≤ n → length known ≡ j
+    → ((i : ℕ) → i < j → slice_index y i ≡ slice_index known i) →
+    steered_symbol cu cv y n ≡ (sum_by (λ k. slice_index known (n - k) * difference_at cu cv k) (range_with_len 0 (16 * (n / 16))) + slice_index y j * difference_at cu cv
+        (first_difference cu cv)) % 65537
 added cu cv y known n j good is from count same =
     let p = first_difference cu cv in
     let reach = in_reach p n from in
@@ -56,7 +58,8 @@ same_at cu cv e x y x' y' count m good_u good_v differ s s' within before =
             let second = added cu cv y' known (m + p) m good_u refl from places (λ k lt. sym (before k lt) ∙ sym (get_or-take m y k 0 lt)) in
             same_factor (slice_index y m) (slice_index y' m) (difference_at cu cv p) (s.second.are_symbols m) (s'.second.are_symbols m)
             (some_difference (slice_index cu p) (slice_index cv p) (good_u p) (good_v p) differ) (symbol-below (slice_index cu p) (slice_index cv p))
-            (same_rest (sum_by (λ k. slice_index known (m + p - k) * difference_at cu cv k) (range_with_len 0 (16 * ((m + p) / 16)))) (slice_index y m * difference_at cu cv p) (slice_index y' m * difference_at cu cv p)
+            (same_rest (sum_by (λ k. slice_index known (m + p - k) * difference_at cu cv k) (range_with_len 0 (16 * ((m + p) / 16)))) (slice_index y m * difference_at cu cv p)
+                (slice_index y' m * difference_at cu cv p)
             (sym first ∙ s.wanted (m + p) from reached ∙ sym (s'.wanted (m + p) from reached) ∙ second)))
       ]
     ]
@@ -68,7 +71,8 @@ same_below cu cv e x y x' y' count good_u good_v differ s s' zero i low within =
 same_below cu cv e x y x' y' count good_u good_v differ s s' (suc m) i low within =
     let before : (k : ℕ) → k < m → slice_index y k ≡ slice_index y' k = λ k lt. same_below cu cv e x y x' y' count good_u good_v differ s s' m k lt (omega arith) in
     elim (eq-or-lt_of_le low) [
-      | inl last ↦ (let is : i ≡ m = omega arith in ap (λ z. slice_index y z) is ∙ same_at cu cv e x y x' y' count m good_u good_v differ s s' (omega arith) before ∙ ap (λ z. slice_index y' z) (sym is))
+      | inl last ↦ (let is : i ≡ m = omega arith in ap (λ z. slice_index y z) is ∙ same_at cu cv e x y x' y' count m good_u good_v differ s s' (omega arith) before
+          ∙ ap (λ z. slice_index y' z) (sym is))
       | inr less ↦ before i (le_of_suc-le-suc less)
     ]
 
@@ -77,13 +81,16 @@ left_over : (x g : ℕ) → x < 65537 → g < 65537 → (x + g) % 65537 ≡ 0 �
 left_over x g low_x low_g none = omega arith
 
 -- a steering is the computed changes
-pub steering_is_computed : (cu cv e : List ℕ) (count : ℕ) → AreSymbols cu → AreSymbols cv → AreSymbols e → slice_index cu (first_difference cu cv) ≢ slice_index cv (first_difference cu cv) → (x y : List ℕ) → IsSteering cu cv e count x y →
+pub steering_is_computed : (cu cv e : List ℕ) (count : ℕ) → AreSymbols cu → AreSymbols cv → AreSymbols e → slice_index cu (first_difference cu cv) ≢ slice_index cv (first_difference cu cv)
+    → (x y : List ℕ) → IsSteering cu cv e count x y →
     (y ≡ second_changes cu cv e count) × (x ≡ first_changes cu (second_changes cu cv e count) count)
 steering_is_computed cu cv e count good_u good_v good_e differ x y s =
     let z = second_changes cu cv e count in
     let s' = computed-steers cu cv e count good_u good_v good_e differ in
-    let same : y ≡ z = ext_get_or 0 y z (s.second.many ∙ sym s'.second.many) (λ i lt. same_below cu cv e x y (first_changes cu z count) z count good_u good_v differ s s' count i (omega (arith, s.second.many)) (omega arith)) in
-    (same, fill_by_all (first_change cu z) x count 0 s.first.many (λ k lt. left_over (slice_index x k) (gained_symbol cu y k) (s.first.are_symbols k) (below (sum_by (λ i. slice_index y (k - i) * slice_index cu i) (range_with_len 0 (16 * (k / 16))))) (s.kept k lt) ∙ ap (λ w. first_change cu w k) same))
+    let same : y ≡ z = ext_get_or 0 y z (s.second.many ∙ sym s'.second.many) (λ i lt. same_below cu cv e x y (first_changes cu z count) z count good_u good_v differ s s' count i
+        (omega (arith, s.second.many)) (omega arith)) in
+    (same, fill_by_all (first_change cu z) x count 0 s.first.many (λ k lt. left_over (slice_index x k) (gained_symbol cu y k) (s.first.are_symbols k)
+        (below (sum_by (λ i. slice_index y (k - i) * slice_index cu i) (range_with_len 0 (16 * (k / 16))))) (s.kept k lt) ∙ ap (λ w. first_change cu w k) same))
   where
     below : (t : ℕ) → t % 65537 < 65537
     below t = omega arith

@@ -20,7 +20,8 @@ sum_delivered net sums t = elim (cases_Bool (nat_lt t (length net.script))) [
 ]
 
 -- what a round lets a station hear
-heard_in : (net : Net) (played : List Round) (i : ℕ) → i < net.stations → word_of_station (next_round net played).received i ≡ heard (script_turn net (length played)).delivery (next_round net played).sum i
+heard_in : (net : Net) (played : List Round) (i : ℕ) → i < net.stations → word_of_station (next_round net played).received i ≡ heard (script_turn net (length played)).delivery
+    (next_round net played).sum i
 heard_in net played i low = get_or-map-range_with_len (heard (script_turn net (length played)).delivery (next_round net played).sum) 0 net.stations i i zero_word low (omega arith)
 
 -- an honest station is a station

@@ -23,13 +23,15 @@ agree_before (x ∷ xs) (y ∷ ys) k low = (elim (nat_eq x y) as (λ b. nat_eq x
   | false ↦ λ e less. absurd (omega arith)
 ]) refl low
   where
-    agree_on : (x y : ℕ) (xs ys : List ℕ) (k : ℕ) → x ≡ y → ((i : ℕ) → suc i ≡ k → slice_index xs i ≡ slice_index ys i) → k < 1 + first_difference xs ys → slice_index (x ∷ xs) k ≡ slice_index (y ∷ ys) k
+    agree_on : (x y : ℕ) (xs ys : List ℕ) (k : ℕ) → x ≡ y → ((i : ℕ) → suc i ≡ k → slice_index xs i ≡ slice_index ys i) → k < 1 + first_difference xs ys → slice_index (x ∷ xs) k
+        ≡ slice_index (y ∷ ys) k
     agree_on x y xs ys zero e rest less = e
     agree_on x y xs ys (suc i) e rest less = rest i refl
 
 -- the change at a place, from those before it
 abbrev change_at : List ℕ → List ℕ → List ℕ → ℕ → ℕ → ℕ
-change_at cu cv e count j = if nat_lt (j + first_difference cu cv) (steered_from (first_difference cu cv)) || nat_le count (j + first_difference cu cv) then 0 else next_change cu cv e (changes_up_to cu cv e count j)
+change_at cu cv e count j = if nat_lt (j + first_difference cu cv) (steered_from (first_difference cu cv)) || nat_le count (j + first_difference cu cv) then 0 else next_change cu cv e
+    (changes_up_to cu cv e count j)
 
 -- so many changes are known after so many places
 length-changes : (cu cv e : List ℕ) (count j : ℕ) → length (changes_up_to cu cv e count j) ≡ j
@@ -72,19 +74,22 @@ below_or_past j count = elim (cases_Bool (nat_lt j count)) [ inl low ↦ inl (lt
 -- the changes are 0 where they reach no symbol after the first difference's round
 early_zero : (cu cv e : List ℕ) (count j : ℕ) → j + first_difference cu cv < steered_from (first_difference cu cv) → slice_index (second_changes cu cv e count) j ≡ 0
 early_zero cu cv e count j low = elim (below_or_past j count) [
-  | inl within ↦ change_is cu cv e count j within ∙ ap (λ b. if b then 0 else next_change cu cv e (changes_up_to cu cv e count j)) (or_first _ (nat_le count (j + first_difference cu cv)) (lt-ltb (j + first_difference cu cv) (steered_from (first_difference cu cv)) low))
+  | inl within ↦ change_is cu cv e count j within ∙ ap (λ b. if b then 0 else next_change cu cv e (changes_up_to cu cv e count j)) (or_first _ (nat_le count (j + first_difference cu cv))
+      (lt-ltb (j + first_difference cu cv) (steered_from (first_difference cu cv)) low))
   | inr past ↦ no_change_past cu cv e count j past
 ]
 
 -- and where they reach past the session
 late_zero : (cu cv e : List ℕ) (count j : ℕ) → count ≤ j + first_difference cu cv → slice_index (second_changes cu cv e count) j ≡ 0
 late_zero cu cv e count j high = elim (below_or_past j count) [
-  | inl within ↦ change_is cu cv e count j within ∙ ap (λ b. if b then 0 else next_change cu cv e (changes_up_to cu cv e count j)) (or_second (nat_lt (j + first_difference cu cv) (steered_from (first_difference cu cv))) _ (le-leb count (j + first_difference cu cv) high))
+  | inl within ↦ change_is cu cv e count j within ∙ ap (λ b. if b then 0 else next_change cu cv e (changes_up_to cu cv e count j))
+      (or_second (nat_lt (j + first_difference cu cv) (steered_from (first_difference cu cv))) _ (le-leb count (j + first_difference cu cv) high))
   | inr past ↦ no_change_past cu cv e count j past
 ]
 
 -- where they reach a symbol to be steered, they are the quotient
-steered_change : (cu cv e : List ℕ) (count n j : ℕ) → j + first_difference cu cv ≡ n → steered_from (first_difference cu cv) ≤ n → n < count → slice_index (second_changes cu cv e count) j ≡ next_change cu cv e (changes_up_to cu cv e count j)
+steered_change : (cu cv e : List ℕ) (count n j : ℕ) → j + first_difference cu cv ≡ n → steered_from (first_difference cu cv) ≤ n → n < count → slice_index (second_changes cu cv e count) j
+    ≡ next_change cu cv e (changes_up_to cu cv e count j)
 steered_change cu cv e count n j is from within =
     let p = first_difference cu cv in
     change_is cu cv e count j (omega arith)
@@ -125,7 +130,8 @@ made_up a x e low is = omega arith
 
 -- at one difference the change of a place counts in full, at every other as the known changes say
 pub split_at : (cu cv y known : List ℕ) (n j k : ℕ) → AreSymbols cu → j + first_difference cu cv ≡ n → k ≤ n → length known ≡ j → ((i : ℕ) → i < j → slice_index y i ≡ slice_index known i) →
-    slice_index y (n - k) * difference_at cu cv k ≡ slice_index known (n - k) * difference_at cu cv k + cond (nat_eq k (first_difference cu cv)) (slice_index y j * difference_at cu cv (first_difference cu cv)) 0
+    slice_index y (n - k) * difference_at cu cv k ≡ slice_index known (n - k) * difference_at cu cv k + cond (nat_eq k (first_difference cu cv)) (slice_index y j * difference_at cu cv
+        (first_difference cu cv)) 0
 split_at cu cv y known n j k good is within count same =
     let p = first_difference cu cv in
     elim (cases_Bool (nat_eq k p)) [
@@ -143,7 +149,8 @@ split_at cu cv y known n j k good is within count same =
                 let left : slice_index y (n - k) * difference_at cu cv k ≡ 0 = ap (λ d. slice_index y (n - k) * d) none ∙ mul-zero (slice_index y (n - k)) in
                 let right : slice_index known (n - k) * difference_at cu cv k ≡ 0 = ap (λ d. slice_index known (n - k) * d) none ∙ mul-zero (slice_index known (n - k)) in
                 omega arith)
-            | inr after ↦ (let kept : slice_index y (n - k) * difference_at cu cv k ≡ slice_index known (n - k) * difference_at cu cv k = ap (λ z. z * difference_at cu cv k) (same (n - k) (omega arith)) in
+            | inr after ↦ (let kept : slice_index y (n - k) * difference_at cu cv k ≡ slice_index known (n - k) * difference_at cu cv k = ap (λ z. z * difference_at cu cv k)
+                (same (n - k) (omega arith)) in
                 omega arith)
           ])
     ]
@@ -181,7 +188,8 @@ wanted_met cu cv e count n good_u good_v good_e differ from within =
     steered_change cu cv e count n j is from within
     ∙ ap (λ m. symbol_sub (slice_index e m) (steered_symbol cu cv known m) * symbol_inverse (difference_at cu cv p) % 65537) (ap (λ z. z + p) places ∙ is) in
     let some = some_difference (slice_index cu p) (slice_index cv p) (good_u p) (good_v p) differ in
-    let given : change % 65537 ≡ missing = ap (λ z. z * difference_at cu cv p % 65537) quotient ∙ divided missing (difference_at cu cv p) (symbol-below (slice_index e n) (known_sum % 65537)) some (symbol-below (slice_index cu p) (slice_index cv p)) in
+    let given : change % 65537 ≡ missing = ap (λ z. z * difference_at cu cv p % 65537) quotient ∙ divided missing (difference_at cu cv p) (symbol-below (slice_index e n) (known_sum % 65537)) some
+        (symbol-below (slice_index cu p) (slice_index cv p)) in
     ap (λ s. s % 65537) sums ∙ made_up known_sum change (slice_index e n) (good_e n) given
 
 -- every change of second pads is a symbol
@@ -203,7 +211,8 @@ first_change_is cu y count n low = get_or-map-range_with_len (first_change cu y)
 first-below : (cu y : List ℕ) (count n : ℕ) → slice_index (first_changes cu y count) n < 65537
 first-below cu y count n = elim (below_or_past n count) [
   | inl within ↦ rw (first_change_is cu y count n within) (symbol-below 0 (gained_symbol cu y n))
-  | inr past ↦ (let many = length-map-range_with_len (first_change cu y) 0 count in let none : slice_index (first_changes cu y count) n ≡ 0 = get_or-eq_default (first_changes cu y count) 0 (omega arith) in rw none (omega arith))
+  | inr past ↦ (let many = length-map-range_with_len (first_change cu y) 0 count in let none : slice_index (first_changes cu y count) n ≡ 0 = get_or-eq_default (first_changes cu y count) 0
+      (omega arith) in rw none (omega arith))
 ]
 
 -- it takes what the changes of second pads add
@@ -217,7 +226,8 @@ taken cu y count n low = rw (first_change_is cu y count n low) (cancels (gained_
     cancels s low = omega arith
 
 -- the computed changes of pads are a steering
-pub computed-steers : (cu cv e : List ℕ) (count : ℕ) → AreSymbols cu → AreSymbols cv → AreSymbols e → slice_index cu (first_difference cu cv) ≢ slice_index cv (first_difference cu cv) → (let y = second_changes cu cv e count in IsSteering cu cv e count (first_changes cu y count) y)
+pub computed-steers : (cu cv e : List ℕ) (count : ℕ) → AreSymbols cu → AreSymbols cv → AreSymbols e → slice_index cu (first_difference cu cv) ≢ slice_index cv (first_difference cu cv)
+    → (let y = second_changes cu cv e count in IsSteering cu cv e count (first_changes cu y count) y)
 computed-steers cu cv e count good_u good_v good_e differ = record {
   first = record { many = length-map-range_with_len (first_change cu (second_changes cu cv e count)) 0 count; are_symbols = first-below cu (second_changes cu cv e count) count };
   second = record { many = length-changes cu cv e count count; are_symbols = second-below cu cv e count };

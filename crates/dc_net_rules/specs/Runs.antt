@@ -1,4 +1,5 @@
--- The run of a net: round after round the words of all stations, their sum, and what each station receives.
+-- The run of a net: round after round the words of all stations, their sum, and what each station
+-- receives.
 use Rattle.std.specs.Prelude.{ℕ, zero, suc, ◌≡◌, ◌==◌, not, if◌then◌else◌, List, [], ◌∷◌, ◌++◌, length, map, filter, find, flat_map, slice_index_or, None, unwrap_or, IsTrue, All, Bool}
 use Rattle.std.specs.List.{range_with_len, list_all}
 use Rattle.std.specs.Str.{bytes_eq}
@@ -12,25 +13,28 @@ use Rattle.dc_station_rules.specs.Stations.{plain_word, log_of, sent_of, pending
 use Rattle.dc_spec.specs.Lists.{is_among}
 use Rattle.dc_key_rules.specs.PairKeys.{key_part}
 
--- a round that was played: the words of all stations, their sum, and the word that each honest station received, all by station (what stands at a member is not used)
+-- a round that was played: the words of all stations, their sum, and the words received, by station
+-- (for a member of the coalition that word is not used)
 pub record Round : Type 0 where
   pub words : List (List ℕ)
   pub sum : List ℕ
   pub received : List (List ℕ)
 
--- the word of a list by station, the zero word past its end
+-- the word of a station in a list by station; past the end it is the zero word
 abbrev pub word_of_station : List (List ℕ) → ℕ → List ℕ
 word_of_station words i = slice_index_or words i zero_word
 
--- the word that a list of stations and words has for a station
+-- the word of a station in a list of stations with their words; the zero word where there is none
 abbrev pub listed_word : List (ℕ × List ℕ) → ℕ → List ℕ
-listed_word listed i = option_map_or (λ entry. entry.1) (find (λ entry. entry.0 == i) listed) zero_word
+listed_word listed i =
+    option_map_or (λ entry. entry.1) (find (λ entry. entry.0 == i) listed) zero_word
 
--- the stream of a station, one that has nothing to say where the net has none
+-- the stream of a station; the empty stream where the net has none for it
 abbrev pub station_stream : Net → ℕ → Stream
-station_stream net i = unwrap_or (slice_index_or net.streams i None) (record { shorts = []; longs = []; coins = [] })
+station_stream net i =
+    unwrap_or (slice_index_or net.streams i None) (record { shorts = []; longs = []; coins = [] })
 
--- what the script says of a round, nothing past its end
+-- the script's round of this number; past the end nobody says a word and all receive the sum
 abbrev pub script_turn : Net → ℕ → Turn
 script_turn net t = slice_index_or net.script t (record { says = []; delivery = all_sum })
 
@@ -42,25 +46,30 @@ honest_stations net = filter (λ i. not (is_among net.coalition i)) (range_with_
 abbrev pub history : List Round → ℕ → List (List ℕ)
 history rounds i = map (λ round. word_of_station round.received i) rounds
 
--- what a station hears of a round: the sum, or the word that is dealt to it
+-- what a station receives in a round: the sum, or the word that the script delivers to it
 abbrev pub heard : Delivery → List ℕ → ℕ → List ℕ
 heard all_sum sum i = sum
 heard (each dealt) sum i = listed_word dealt i
 
--- the word of an honest station after the words that it received: its plain word and the keys of its pairs
+-- the word of an honest station after the words that it received: its plain word and the keys of
+-- its pairs
 abbrev pub station_word : Stream → List Pair → ℕ → List (List ℕ) → List ℕ
-station_word stream pairs i received = word_add (plain_word stream received) (key_part pairs i received)
+station_word stream pairs i received =
+    word_add (plain_word stream received) (key_part pairs i received)
 
--- the word of a station in the round after those played: a member's is the script's
+-- the word of a station in the round after those played; a member's word is that of the script
 abbrev pub next_word : Net → List Round → ℕ → List ℕ
-next_word net played i = if is_among net.coalition i then listed_word (script_turn net (length played)).says i else station_word (station_stream net i) net.keys.pairs i (history played i)
+next_word net played i =
+    if is_among net.coalition i then listed_word (script_turn net (length played)).says i
+    else station_word (station_stream net i) net.keys.pairs i (history played i)
 
 -- the round after those played
 abbrev pub next_round : Net → List Round → Round
 next_round net played =
     let words = map (next_word net played) (range_with_len 0 net.stations) in
     let sum = word_sum words in
-    record { words = words; sum = sum; received = map (heard (script_turn net (length played)).delivery sum) (range_with_len 0 net.stations) }
+    let delivery = (script_turn net (length played)).delivery in
+    record { words = words; sum = sum; received = map (heard delivery sum) (range_with_len 0 net.stations) }
 
 -- the first so many rounds of a net
 unfoldable pub rounds_of : Net → ℕ → List Round
@@ -92,19 +101,24 @@ run_of net = recorded net (all_rounds net)
 abbrev pub IsHonest : Net → ℕ → Type 0
 IsHonest net i = IsTrue (is_among (honest_stations net) i)
 
--- all honest stations received one and the same word in a round
+-- all honest stations received the same word in a round
 abbrev pub IsAlikeIn : Net → Round → Type 0
-IsAlikeIn net round = (i j : ℕ) → IsHonest net i → IsHonest net j → word_of_station round.received i ≡ word_of_station round.received j
+IsAlikeIn net round =
+    (i j : ℕ) → IsHonest net i → IsHonest net j
+        → word_of_station round.received i ≡ word_of_station round.received j
 
--- they did in each round
+-- and in each round
 abbrev pub IsAlike : Net → Type 0
 IsAlike net = All (IsAlikeIn net) (all_rounds net)
 
--- whether all honest stations received one and the same word in a round
+-- whether all honest stations received the same word in a round
 abbrev pub is_alike_in : Net → Round → Bool
-is_alike_in net round = list_all (λ i. list_all (λ j. bytes_eq (word_of_station round.received i) (word_of_station round.received j)) (honest_stations net)) (honest_stations net)
+is_alike_in net round =
+    list_all (λ i. list_all (λ j.
+        bytes_eq (word_of_station round.received i) (word_of_station round.received j)
+    ) (honest_stations net)) (honest_stations net)
 
--- whether they did in each round
+-- and in each round, as a test
 abbrev pub is_alike : Net → Bool
 is_alike net = list_all (is_alike_in net) (all_rounds net)
 

@@ -1,4 +1,4 @@
-//! Laws of runs, twins and steerings: functions that do nothing, whose contracts are the laws.
+//! Laws of runs, twins and steerings. The functions do nothing; each one's contract is a law.
 
 ghost use Rattle.dc_net_rules.specs.Laws.{ComputedChangesSteer, SteeringsAreComputed, SumsAreAlike, AlikeAsComputed, AdmitsAsComputed};
 
@@ -14,18 +14,18 @@ pub fn steerings_are_computed()
     ensures { SteeringsAreComputed }
 {}
 
-/// Without dealt words all honest stations receive alike.
+/// Where the script delivers the sum in every round, all honest stations receive alike.
 pub fn sums_are_alike()
     ensures { SumsAreAlike }
 {}
 
-/// A run that is alike as it is computed is one in which all honest stations receive alike.
+/// The test whether all honest stations receive alike is right.
 #[tactic(auto, using(crate::proofs::Admitting::alike_is_computed))]
 pub fn alike_as_computed()
     ensures { AlikeAsComputed }
 {}
 
-/// A permutation that is admitted as it is computed is one that keeps each station in its part.
+/// The test whether a net admits a permutation is right.
 #[tactic(auto, using(crate::proofs::Admitting::admits_is_computed))]
 pub fn admits_as_computed()
     ensures { AdmitsAsComputed }

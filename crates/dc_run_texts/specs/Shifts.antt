@@ -1,4 +1,4 @@
--- Shifts of a twin: what is added to the first pads of the edges of its forest.
+-- The text of the shifts of a twin: what is added to the first pads of the edges of its forest.
 use Rattle.std.specs.Prelude.{ℕ, Bool, List, [], ◌==◌, if◌then◌else◌, codes}
 use Rattle.std.specs.List.{flat_map, list_all, enumerate_from}
 use Rattle.dc_net_rules.specs.Twins.{Shift}
@@ -8,7 +8,7 @@ use Rattle.dc_formats.specs.WordLines.{pair_word_line}
 abbrev pub is_zero : List ℕ → Bool
 is_zero w = list_all (λ x. x == 0) w
 
--- nothing where the word is zero
+-- the line of one round; no line where the word is zero
 abbrev pub shift_line : ℕ → ℕ → ℕ → List ℕ → List ℕ
 shift_line u v r w = if is_zero w then [] else pair_word_line (codes "shift ") u v r w
 

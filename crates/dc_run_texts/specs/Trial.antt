@@ -1,4 +1,5 @@
--- The summary of a trial: its numbers, what the first station's log holds, what is pending everywhere, the sum of all sums.
+-- The summary of a trial: its numbers, how many values and messages are in the first station's log
+-- and pending, the sum of all sums.
 use Rattle.std.specs.Prelude.{ℕ, List, [], ◌++◌, sum_by, slice_index_or, codes}
 use Rattle.std.specs.Fmt.{decimal}
 use Rattle.dc_spec.specs.Words.{word_sum}
@@ -7,12 +8,12 @@ use Rattle.dc_spec.specs.Entries.{Entry, short, long}
 use Rattle.dc_spec.specs.Net.{Run}
 use Rattle.dc_run_texts.specs.Logs.{pending_line}
 
--- how many shorts an entry stands for
+-- how many values an entry counts for
 abbrev pub shorts_in : Entry → ℕ
 shorts_in (short value times) = times
 shorts_in (long message) = 0
 
--- how many longs an entry stands for
+-- how many messages an entry counts for
 abbrev pub longs_in : Entry → ℕ
 longs_in (short value times) = 0
 longs_in (long message) = 1
@@ -23,7 +24,9 @@ first_log run = slice_index_or run.logs 0 []
 
 -- the seed and the numbers of stations and words
 abbrev pub trial_line : ℕ → ℕ → ℕ → List ℕ
-trial_line seed stations words = line (codes "trial " ++ decimal seed ++ codes " " ++ decimal stations ++ codes " " ++ decimal words)
+trial_line seed stations words =
+    line (codes "trial " ++ decimal seed ++ codes " " ++ decimal stations ++ codes " "
+        ++ decimal words)
 
 -- five lines
 unfoldable pub trial_text : ℕ → ℕ → ℕ → Run → List ℕ

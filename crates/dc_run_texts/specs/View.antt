@@ -1,4 +1,5 @@
--- The view of a run: what the coalition and everyone else can see of it. No pad of two honest stations, and no stream.
+-- The view of a run: what the coalition and everyone else can see of it. No pad of two honest
+-- stations, and no stream.
 use Rattle.std.specs.Prelude.{ℕ, List, ◌++◌, length, filter, slice_index_or, codes, [], zip}
 use Rattle.std.specs.List.{flat_map, range_with_len, enumerate_from}
 use Rattle.std.specs.Fmt.{decimal}
@@ -16,19 +17,22 @@ edge_line u v = line (codes "edge " ++ decimal u ++ codes " " ++ decimal v)
 
 -- a line for each of so many rounds, with the sixteen pads of that round
 abbrev pub pad_lines : List ℕ → ℕ → ℕ → ℕ → List ℕ → List ℕ
-pad_lines beginning words u v pads = flat_map (λ r. pair_word_line beginning u v r (items_of_round 16 r pads)) (range_with_len 0 words)
+pad_lines beginning words u v pads =
+    flat_map (λ r. pair_word_line beginning u v r (items_of_round 16 r pads))
+        (range_with_len 0 words)
 
 -- all first pads of a pair, then all second pads
 abbrev pub pair_lines : ℕ → Pair → List ℕ
-pair_lines words p = pad_lines (codes "first ") words p.u p.v p.a ++ pad_lines (codes "second ") words p.u p.v p.b
+pair_lines words p =
+    pad_lines (codes "first ") words p.u p.v p.a ++ pad_lines (codes "second ") words p.u p.v p.b
 
--- the edges in the order of the net, which is rising, the members, rising, then all pads that a member knows
+-- the edges and the members, both in rising order, then all pads that a member knows
 abbrev pub net_text : Net → List ℕ
 net_text net = flat_map (λ e. edge_line e.0 e.1) net.edges
     ++ flat_map (λ i. line (codes "member " ++ decimal i)) (members net)
     ++ flat_map (pair_lines net.words) (filter (is_known net) net.keys.pairs)
 
--- whether the honest stations received the sum or dealt words
+-- the kind of delivery: the sum, or a word for each station
 abbrev pub delivery_line : Delivery → List ℕ
 delivery_line all_sum = line (codes "all")
 delivery_line (each dealt) = line (codes "each")

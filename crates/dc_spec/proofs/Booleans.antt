@@ -1,5 +1,5 @@
 -- Tests by cases.
-use Rattle.std.proofs.Common.{◌≡◌, ℕ, Bool, true, false, ◌||◌, ◌&&◌, not, nat_eq, refl, sym, ◌∙◌, inl, inr, eqb-true, eq-eqb, true≢false, ◌⊎◌}
+use Rattle.std.proofs.Common.{◌≡◌, ℕ, Bool, true, false, ◌||◌, nat_eq, refl, sym, ◌∙◌, inl, inr, eqb-true, eq-eqb, true≢false, ◌⊎◌}
 use Rattle.std.proofs.lemmas.Bool.{eqb-false, cases_Bool}
 
 -- numbers are compared either way round
@@ -17,25 +17,6 @@ pub test-same : (a b : Bool) → (a ≡ true → b ≡ true) → (b ≡ true →
 test-same true b to from = sym (to refl)
 test-same false true to from = absurd (true≢false (sym (from refl)))
 test-same false false to from = refl
-
--- one of two tests passed, in the other order
-pub or-comm : (a b : Bool) → (a || b) ≡ true → (b || a) ≡ true
-or-comm true true h = refl
-or-comm true false h = refl
-or-comm false true h = refl
-or-comm false false h = h
-
--- neither of two tests passed, in the other order
-pub neither-comm : (a b : Bool) → not (a || b) ≡ true → not (b || a) ≡ true
-neither-comm true true h = h
-neither-comm true false h = h
-neither-comm false true h = h
-neither-comm false false h = refl
-
--- both tests passed
-pub and_both : (a b : Bool) → a ≡ true → b ≡ true → (a && b) ≡ true
-and_both true b first second = second
-and_both false b first second = absurd (true≢false (sym first))
 
 -- one of two tests passed
 pub or_cases : (a b : Bool) → (a || b) ≡ true → (a ≡ true) ⊎ (b ≡ true)

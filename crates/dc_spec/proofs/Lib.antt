@@ -7,3 +7,4 @@ pub mod Options
 pub mod SumLemmas
 pub mod TextLemmas
 pub mod WordLemmas
+mod SpelledWords

@@ -17,6 +17,6 @@ pub if-none : {A : Type 0} (b : Bool) (x : A) → cond b None (Some x) ≡ None 
 if-none true x e = refl
 if-none false x e = absurd (none-some x (sym e))
 
--- the values of two equal options
+-- the values of two equal options (std's `some-injective`, which does not find its arguments)
 pub some-inj : {A : Type 0} {x y : A} → Path (Option A) (Some x) (Some y) → x ≡ y
 some-inj {x = x} e = ap (λ o. unwrap_or o x) e

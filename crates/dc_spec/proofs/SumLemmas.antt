@@ -19,7 +19,8 @@ sum_by-filter f p (x ∷ xs) =
     let ih = sum_by-filter f p xs in
     let split = sum_by-cons (λ y. cond (p y) (f y) 0) x xs in
     let kept = sum_by-cons f x (filter p xs) in
-    (elim (p x) as (λ b. sum_by (λ y. cond (p y) (f y) 0) (x ∷ xs) ≡ cond b (f x) 0 + sum_by (λ y. cond (p y) (f y) 0) xs → sum_by f (cond b (x ∷ filter p xs) (filter p xs)) ≡ sum_by (λ y. cond (p y) (f y) 0) (x ∷ xs)) [
+    (elim (p x) as (λ b. sum_by (λ y. cond (p y) (f y) 0) (x ∷ xs) ≡ cond b (f x) 0 + sum_by (λ y. cond (p y) (f y) 0) xs → sum_by f (cond b (x ∷ filter p xs) (filter p xs))
+        ≡ sum_by (λ y. cond (p y) (f y) 0) (x ∷ xs)) [
       | true ↦ λ e. omega arith
       | false ↦ λ e. omega arith
     ]) split
@@ -68,7 +69,7 @@ sum_by-exchange f (x ∷ xs) ys =
     omega arith
 
 -- where no item is v, only zeros count
-pub sum_by-none : (f : ℕ → ℕ) (v : ℕ) (xs : List ℕ) → is_among xs v ≡ false → sum_by (λ x. cond (nat_eq x v) (f x) 0) xs ≡ 0
+sum_by-none : (f : ℕ → ℕ) (v : ℕ) (xs : List ℕ) → is_among xs v ≡ false → sum_by (λ x. cond (nat_eq x v) (f x) 0) xs ≡ 0
 sum_by-none f v xs none = sum_by-same (λ x. cond (nat_eq x v) (f x) 0) (λ x. 0) xs (λ x h. elim (cases_Bool (nat_eq x v)) [
   | inl same ↦ absurd (true≢false (sym (subst (λ (z : ℕ). is_among xs z ≡ true) (eqb-true x v same) h) ∙ none))
   | inr other ↦ rw other refl

@@ -8,12 +8,14 @@ pub record Group : Type 0 where
   pub count : ℕ
   pub limbs : List ℕ
 
--- why a word is no group: its count, which is above 256; or the number of a limb (1 to 15) that is above 255 times the count, and that limb
+-- why a word is no group: its count, which is above 256; or the number of a limb (1 to 15) that is
+-- above 255 times the count, and that limb
 pub data GroupFault : Type 0 where
   group_count : ℕ → GroupFault
   group_limb : ℕ → ℕ → GroupFault
 
--- why a group is no part of a whole: the two counts, that of the whole first; or the number of a limb (1 to 15) with the limb of the whole and that of the part
+-- why a group is no part of a whole: the two counts, that of the whole first; or the number of a
+-- limb (1 to 15) with the limb of the whole and that of the part
 pub data SplitFault : Type 0 where
   split_count : ℕ → ℕ → SplitFault
   split_limb : ℕ → ℕ → ℕ → SplitFault
@@ -49,15 +51,21 @@ group_or_fault group (Some i) = Err (group_limb (i + 1) (limb group i))
 
 -- a word as a group, or the first fault that shows it is none
 unfoldable pub group_of : List ℕ → Result Group GroupFault
-group_of word = if nat_lt 256 (word_count word) then Err (group_count (word_count word)) else group_or_fault (counted word) (high_limb (counted word))
+group_of word =
+    if nat_lt 256 (word_count word) then Err (group_count (word_count word))
+    else group_or_fault (counted word) (high_limb (counted word))
 
 -- what is left of a whole without a part, whether it is one or not
 abbrev pub group_rest : Group → Group → Group
-group_rest whole part = record { count = whole.count - part.count; limbs = fifteen (λ i. limb whole i - limb part i) }
+group_rest whole part =
+    record { count = whole.count - part.count; limbs = fifteen (λ i. limb whole i - limb part i) }
 
--- the place of the first limb that the part has more of than the whole, or that leaves more than 255 for each of the rest
+-- the place of the first limb that the part has more of than the whole, or that leaves more than
+-- 255 for each of the rest
 abbrev pub unfit_limb : Group → Group → Option ℕ
-unfit_limb whole part = first_limb_where (λ i. nat_lt (limb whole i) (limb part i) || nat_lt (255 * (whole.count - part.count)) (limb whole i - limb part i))
+unfit_limb whole part =
+    first_limb_where (λ i. nat_lt (limb whole i) (limb part i)
+        || nat_lt (255 * (whole.count - part.count)) (limb whole i - limb part i))
 
 -- the rest of a group, or the fault of the limb at this place
 abbrev pub rest_or_fault : Group → Group → Option ℕ → Result Group SplitFault
@@ -66,7 +74,10 @@ rest_or_fault whole part (Some i) = Err (split_limb (i + 1) (limb whole i) (limb
 
 -- the whole minus a part of it, or the first fault that shows it is no part
 unfoldable pub minus : Group → Group → Result Group SplitFault
-minus whole part = if part.count == 0 || nat_lt whole.count part.count then Err (split_count whole.count part.count) else rest_or_fault whole part (unfit_limb whole part)
+minus whole part =
+    if part.count == 0 || nat_lt whole.count part.count
+    then Err (split_count whole.count part.count)
+    else rest_or_fault whole part (unfit_limb whole part)
 
 -- the place of the first limb that the count does not divide
 abbrev pub uneven_limb : Group → Option ℕ

@@ -1,4 +1,5 @@
--- The limits of a session and of its files. Each is written here and nowhere else in the definitions.
+-- The limits of a session and of its files. Each is written here and nowhere else in the
+-- definitions.
 use Rattle.std.specs.Prelude.{ℕ, ◌^◌}
 
 -- how many stations a net has at most

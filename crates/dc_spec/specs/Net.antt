@@ -4,7 +4,8 @@ use Rattle.dc_spec.specs.Entries.{Entry, Stream}
 use Rattle.dc_spec.specs.Scripts.{Turn}
 use Rattle.dc_spec.specs.Pads.{Keys}
 
--- a net: the number of stations, the edges of the key graph, the coalition's stations, the pads, a stream for each station that has one, the coalition's script, the number of words of a session
+-- a net: the number of stations, the edges of the key graph, the coalition's stations, the pads, a
+-- stream for each station that has one, the coalition's script, the number of words of a session
 pub record Net : Type 0 where
   pub stations : ℕ
   pub edges : List (ℕ × ℕ)
@@ -14,8 +15,9 @@ pub record Net : Type 0 where
   pub script : List Turn
   pub words : ℕ
 
--- a run: all words, those of a round by station; the sum of each round; all received words, those of a round by honest station;
--- and for each honest station its log, its sent entries, and how many values and messages are pending
+-- a run: all words, those of a round by station; the sum of each round; all received words, those
+-- of a round by honest station; and for each honest station its log, its sent entries, and how many
+-- values and messages are pending
 pub record Run : Type 0 where
   pub words : List (List ℕ)
   pub sums : List (List ℕ)

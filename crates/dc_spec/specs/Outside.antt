@@ -1,4 +1,5 @@
--- The outside as contracts see it: a state, which an object may report or not, and a count of its faults.
+-- The outside as contracts see it: a state, which an object may report or not, and a count of its
+-- faults.
 use Rattle.std.specs.Prelude.{ℕ, ◌+◌, ◌-◌, ◌^◌, ◌≤◌, ◌≡◌, min, List, ◌++◌, Option, option_map}
 
 -- what a shelf reports of a file name: nothing, that there is no such file, or the file's bytes
@@ -7,7 +8,8 @@ pub data Holding : Type 0 where
   absent : Holding
   held : List ℕ → Holding
 
--- a shelf: what it reports of each name, the names asked for so far where they are known, and the count of faults
+-- a shelf: what it reports of each name, the names asked for so far where they are known, and the
+-- count of faults
 pub record ShelfState : Type 0 where
   pub holds : List ℕ → Holding
   pub asked : Option (List (List ℕ))
@@ -30,7 +32,8 @@ grown known more = option_map (λ xs. xs ++ more) known
 abbrev pub IsFront : {A : Type 0} → List A → List A → Type 0
 IsFront {A} front whole = (rest : List A) × (whole ≡ front ++ rest)
 
--- bytes that were read agree with what the shelf reports: they are those of the file, where it reports them
+-- bytes that were read agree with what the shelf reports: they are those of the file, where it
+-- reports them
 abbrev pub Tells : Holding → List ℕ → Type 0
 Tells untold bytes = Unit {0}
 Tells absent bytes = ⊥

@@ -6,13 +6,15 @@ use Rattle.dc_spec.specs.Limits as limit
 use Rattle.dc_spec.specs.Words.{AreWords, word_sum}
 use Rattle.dc_spec.specs.Bytes.{word_bytes}
 
--- how many stations and rounds a session has, and its published words, all of a round before those of the next
+-- how many stations and rounds a session has, and its published words, all of a round before those
+-- of the next
 pub record Recorded : Type 0 where
   pub stations : ℕ
   pub rounds : ℕ
   pub words : List (List ℕ)
 
--- at least one station and one round, no more than the limits, and a word for each station and round
+-- at least one station and one round, no more than the limits, and a word for each station and
+-- round
 pub record IsRecorded (t : Recorded) : Type 0 where
   pub some_stations : 1 ≤ t.stations
   pub most_stations : t.stations ≤ limit.most_stations
@@ -31,4 +33,6 @@ superposed t = map (λ r. word_sum (round_words t r)) (range_with_len 0 t.rounds
 
 -- the file of a recorded session
 abbrev pub transcript_bytes : Recorded → List ℕ
-transcript_bytes t = codes "DCT1" ++ to_be_bytes w16 t.stations ++ to_be_bytes w16 t.rounds ++ flat_map word_bytes t.words
+transcript_bytes t =
+    codes "DCT1" ++ to_be_bytes w16 t.stations ++ to_be_bytes w16 t.rounds
+        ++ flat_map word_bytes t.words

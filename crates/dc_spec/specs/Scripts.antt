@@ -1,4 +1,5 @@
--- Scripts: for each round the words of the coalition's members, and what is delivered to the other stations.
+-- Scripts: for each round the words of the coalition's members, and what is delivered to the other
+-- stations.
 use Rattle.std.specs.Prelude.{ℕ, List}
 
 -- what the honest stations receive in a round: the sum, or a word for each of them

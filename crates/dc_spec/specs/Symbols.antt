@@ -15,6 +15,7 @@ unfoldable pub power_below : ℕ → ℕ → ℕ
 power_below x zero = 1
 power_below x (suc n) = let half = power_below x n in half * half % 65537 * x % 65537
 
--- the inverse of a symbol other than 0: its power 65535, since each such symbol has the power 65536 equal to 1
+-- the inverse of a symbol other than 0: its power 65535, since each such symbol has the power 65536
+-- equal to 1
 abbrev pub symbol_inverse : ℕ → ℕ
 symbol_inverse x = power_below x 16

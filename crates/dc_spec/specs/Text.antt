@@ -1,4 +1,5 @@
--- Printed words: five lower-case hexadecimal digits a symbol, eighty a word, a line feed after each.
+-- Printed words: five lower-case hexadecimal digits a symbol, eighty a word, a line feed after
+-- each.
 use Rattle.std.specs.Prelude.{ℕ, ◌+◌, ◌/◌, ◌%◌, List, [], ◌∷◌, ◌++◌, nat_lt, if◌then◌else◌}
 use Rattle.std.specs.List.{flat_map}
 
@@ -8,7 +9,9 @@ hex_digit d = if nat_lt d 10 then 48 + d else 87 + d
 
 -- five digits, leading zeros included
 abbrev pub symbol_text : ℕ → List ℕ
-symbol_text x = hex_digit (x / 65536 % 16) ∷ hex_digit (x / 4096 % 16) ∷ hex_digit (x / 256 % 16) ∷ hex_digit (x / 16 % 16) ∷ hex_digit (x % 16) ∷ []
+symbol_text x =
+    hex_digit (x / 65536 % 16) ∷ hex_digit (x / 4096 % 16) ∷ hex_digit (x / 256 % 16)
+        ∷ hex_digit (x / 16 % 16) ∷ hex_digit (x % 16) ∷ []
 
 -- eighty digits
 abbrev pub word_text : List ℕ → List ℕ

@@ -1,4 +1,5 @@
--- Values: fifteen bytes, read as one number with the most significant byte first. A word may carry a value: symbol 0 is a count, symbols 1 to 15 are limbs.
+-- Values: fifteen bytes, read as one number with the most significant byte first. A word may carry
+-- a value: symbol 0 is a count, symbols 1 to 15 are limbs.
 use Rattle.std.specs.Prelude.{◌≡◌, ℕ, ◌+◌, ◌-◌, ◌*◌, ◌/◌, ◌%◌, ◌^◌, ◌<◌, List, [], ◌∷◌, length, map, slice_index}
 use Rattle.std.specs.List.{range_with_len}
 

@@ -1,4 +1,5 @@
--- Symbols are the numbers below 65537; a word is sixteen of them, and words are added symbol by symbol.
+-- Symbols are the numbers below 65537; a word is sixteen of them, and words are added symbol by
+-- symbol.
 use Rattle.std.specs.Prelude.{ℕ, ◌+◌, ◌-◌, ◌%◌, ◌<◌, ◌≡◌, List, length, map, sum_by, slice_index, All}
 use Rattle.std.specs.List.{range_with_len}
 

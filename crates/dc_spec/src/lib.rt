@@ -3,4 +3,4 @@
 
 mod laws;
 
-pub use laws::inverse_inverts;
+pub use laws::{bytes_spell_words, inverse_inverts};

@@ -20,7 +20,8 @@ count-parts whole part rest split = rw split.is_rest (let fits : part.count ≤ 
 
 -- a group of count 0 has total 0
 total-empty : (group : Group) → IsGroup group → group.count ≡ 0 → 0 ≡ total group
-total-empty group is none = sym (zero-mul _) ∙ sym (number_of-times 0 group.limbs group.limbs refl (λ i lt. let low : limb group i ≤ 255 * group.count = is.limbs i (subst (λ n. i < n) is.fifteen lt) in omega arith))
+total-empty group is none = sym (zero-mul _) ∙ sym (number_of-times 0 group.limbs group.limbs refl (λ i lt. let low : limb group i ≤ 255 * group.count =
+    is.limbs i (subst (λ n. i < n) is.fifteen lt) in omega arith))
 
 -- a group whose limbs are all so many times their share has that many times the total of its value
 total-shared : (group : Group) → IsGroup group → ((i : ℕ) → i < 15 → limb group i ≡ group.count * get_or (divided group) i 0) → group.count * number_of (divided group) ≡ total group
@@ -31,7 +32,8 @@ single-exact : (group : Group) → group.count ≡ 1 → (i : ℕ) → i < 15 �
 single-exact group one i lt = rw (get_or-fifteen _ i lt) rw (one, div-one (limb group i), one-mul (limb group i))
 
 -- what words resolve a group into adds up to the group
-adds_up : {group : Group} {low high : ℕ} {words : List (List ℕ)} {leaves : List Leaf} → Resolves group low high words leaves → IsGroup group → (times_of leaves ≡ group.count) × (total_of leaves ≡ total group)
+adds_up : {group : Group} {low high : ℕ} {words : List (List ℕ)} {leaves : List Leaf} → Resolves group low high words leaves → IsGroup group → (times_of leaves ≡ group.count)
+    × (total_of leaves ≡ total group)
 adds_up (empty {group = g} none) is = (sym none, total-empty g is none)
 adds_up (single {group = g} one) is = (zero-add g.count, zero-add _ ∙ total-shared g is (single-exact g one))
 adds_up (equal {group = g} two parts all even) is = (zero-add g.count, zero-add _ ∙ total-shared g is (divided-exact g even))

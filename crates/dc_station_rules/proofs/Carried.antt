@@ -43,10 +43,6 @@ enough size =
     let less : (size + 2) % 15 < 15 = mod-lt (size + 2) (omega arith) in
     (omega arith, omega arith)
 
--- and no other number is
-pub just-enough : (size count : ℕ) → size + 2 ≤ 15 * count → 15 * count < size + 17 → fragment_count size ≡ count
-just-enough size count most less = let fits = enough size in let a = fits.0 in let b = fits.1 in omega arith
-
 -- the length of the bytes of a burst
 pub length-burst_bytes : (message : List ℕ) → length (burst_bytes message) ≡ 15 * fragment_count (length message)
 length-burst_bytes message =
@@ -92,7 +88,8 @@ get_or-zeros (suc n) (suc i) = get_or-zeros n i
 
 -- a zero after it
 pub zero-byte : (message : List ℕ) (k : ℕ) → length message ≤ k → get_or (burst_bytes message) (2 + k) 0 ≡ 0
-zero-byte message k le = get_or-append-add (to_be_bytes w16 (length message)) _ k 0 ∙ get_or-append_right message _ (length message) k 0 refl le ∙ get_or-zeros (15 * fragment_count (length message) - (length message + 2)) (k - length message)
+zero-byte message k le = get_or-append-add (to_be_bytes w16 (length message)) _ k 0 ∙ get_or-append_right message _ (length message) k 0 refl le
+    ∙ get_or-zeros (15 * fragment_count (length message) - (length message + 2)) (k - length message)
 
 -- each byte of a burst is one
 pub burst-byte : (message : List ℕ) → IsMessage message → (k : ℕ) → get_or (burst_bytes message) k 0 < 256

@@ -1,6 +1,6 @@
 -- Every tree of groups can be closed: further words split each open group until nothing is left to split.
 use Rattle.std.proofs.Common.{◌≡◌, ℕ, zero, suc, ◌+◌, ◌-◌, ◌*◌, ◌<◌, ◌≤◌, min, max, Bool, true, false, cond, nat_lt, ◌||◌, List, [], ◌∷◌, ◌++◌, Option, Some, None, Result, Ok, Err, option_map, refl, sym, ◌∙◌, subst, arith, le-ltb, get_or, lit≤, inl, inr}
-use Rattle.std.proofs.lemmas.Bool.{cases_lt}
+use Rattle.std.proofs.lemmas.Bool.{cases_lt, or_from}
 use Rattle.std.proofs.lemmas.List.{get_or_past}
 use Rattle.std.proofs.lemmas.List.Elements.{All-nil, All-cons, All-append}
 use Rattle.dc_spec.specs.Words.{IsWord, AreWords}
@@ -10,7 +10,7 @@ use Rattle.dc_spec.specs.Values.{fifteen}
 use Rattle.dc_spec.specs.Groups.{Group, limb, counted, high_limb, group_of, group_rest, unfit_limb, minus}
 use Rattle.dc_station_rules.specs.Epochs.{EpochFault, Tree, unsplit, equal_values, parts, mean_of, two_parts, split_by, with_left, with_right, put, current}
 use Rattle.dc_station_rules.specs.Resolving.{Parts}
-use Rattle.dc_spec.proofs.GroupLemmas.{first_place-fails, IsGroup, err-ok, ok-inj, group_of-ok, minus-ok, rest-IsGroup, get_or-fifteen, length-fifteen}
+use Rattle.dc_spec.proofs.GroupLemmas.{first_limb-fails, IsGroup, err-ok, ok-inj, group_of-ok, minus-ok, rest-IsGroup, get_or-fifteen, length-fifteen}
 use Rattle.dc_station_rules.proofs.Putting.{Takes, takes-append, takes-left, takes-right, closed-small, closed-parts, answer-halves, Answer, was_equal, was_split, answer-of}
 use Rattle.dc_spec.proofs.Options.{some-inj}
 
@@ -32,16 +32,15 @@ limb-fits x c two le = (omega arith, omega arith, omega arith)
 
 one-high : (group : Group) → IsGroup group → 2 ≤ group.count → high_limb (counted (one_word group)) ≡ None
 unfolding one_word
-one-high group is two = first_place-fails (λ i. nat_lt (255 * 1) (limb (counted (one_word group)) i)) (λ i lt. le-ltb _ _ (subst (λ x. x ≤ 255) (sym (limb-one group i lt)) (limb-fits (limb group i) group.count two (is.limbs i lt)).0))
-
-or-both : (a b : Bool) → a ≡ false → b ≡ false → (a || b) ≡ false
-or-both a b e f = rw (e, f)
+one-high group is two = first_limb-fails (λ i. nat_lt (255 * 1) (limb (counted (one_word group)) i)) (λ i lt. le-ltb _ _ (subst (λ x. x ≤ 255) (sym (limb-one group i lt))
+    (limb-fits (limb group i) group.count two (is.limbs i lt)).0))
 
 one-fit : (group : Group) → IsGroup group → 2 ≤ group.count → unfit_limb group (counted (one_word group)) ≡ None
 unfolding one_word
-one-fit group is two = first_place-fails (λ i. nat_lt (limb group i) (limb (counted (one_word group)) i) || nat_lt (255 * (group.count - 1)) (limb group i - limb (counted (one_word group)) i))
+one-fit group is two = first_limb-fails (λ i. nat_lt (limb group i) (limb (counted (one_word group)) i) || nat_lt (255 * (group.count - 1)) (limb group i - limb (counted (one_word group)) i))
     (λ i lt. let fits = limb-fits (limb group i) group.count two (is.limbs i lt) in
-    or-both _ _ (le-ltb _ _ (subst (λ x. x ≤ limb group i) (sym (limb-one group i lt)) fits.1)) (le-ltb _ _ (subst (λ x. limb group i - x ≤ 255 * (group.count - 1)) (sym (limb-one group i lt)) fits.2)))
+    or_from _ _ (le-ltb _ _ (subst (λ x. x ≤ limb group i) (sym (limb-one group i lt)) fits.1)) (le-ltb _ _ (subst (λ x. limb group i - x ≤ 255 * (group.count - 1))
+        (sym (limb-one group i lt)) fits.2)))
 
 one-Parts : (group : Group) → IsGroup group → 2 ≤ group.count → Parts group (one_word group) (counted (one_word group)) (group_rest group (counted (one_word group)))
 unfolding group_of minus one_word one_limb
@@ -121,7 +120,8 @@ close-tree (parts left right) is =
       words = one.words ++ other.words;
       are_words = All-append IsWord one.words other.words one.are_words other.are_words;
       after = parts one.after other.after;
-      takes = takes-append _ (parts one.after right) _ one.words other.words (takes-left left one.after right one.words one.takes) (takes-right one.after right other.after other.words one.closed other.takes);
+      takes = takes-append _ (parts one.after right) _ one.words other.words (takes-left left one.after right one.words one.takes)
+          (takes-right one.after right other.after other.words one.closed other.takes);
       closed = closed-parts one.after other.after one.closed other.closed;
     }
 
@@ -143,7 +143,8 @@ put-AreGroups word (unsplit group low high) next is e = by_count (nat_lt group.c
 put-AreGroups word (equal_values leaf) next is e = absurd (none-some _ e)
 put-AreGroups word (parts left right) next is e = by_parts (put word left) (put word right) (put-AreGroups word left) (put-AreGroups word right) refl refl e
   where
-    by_parts : (a b : Option (Result Tree EpochFault)) → ((n : Tree) → AreGroups left → put word left ≡ Some (Ok n) → AreGroups n) → ((n : Tree) → AreGroups right → put word right ≡ Some (Ok n) → AreGroups n)
+    by_parts : (a b : Option (Result Tree EpochFault)) → ((n : Tree) → AreGroups left → put word left ≡ Some (Ok n) → AreGroups n) → ((n : Tree) → AreGroups right → put word right ≡ Some (Ok n)
+        → AreGroups n)
         → put word left ≡ a → put word right ≡ b → option_or (option_map (with_left right) a) (option_map (with_right left) b) ≡ Some (Ok next) → AreGroups next
     by_parts (Some (Ok l)) b again others pl pr h = subst AreGroups (ok-inj (some-inj h)) (again l is.0 pl, is.1)
     by_parts (Some (Err f)) b again others pl pr h = absurd (err-ok (some-inj h))

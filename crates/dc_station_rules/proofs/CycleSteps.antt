@@ -49,19 +49,22 @@ sent_over-push : (stream : Stream) (whole : List Cycle) (cycle : Cycle) → sent
 sent_over-push stream [] cycle = append-nil (sent_in stream cycle)
 sent_over-push stream (c ∷ whole) cycle = ap (λ es. sent_in stream c ++ es) (sent_over-push (left_by stream c) whole cycle) ∙ sym (append_assoc (sent_in stream c) _ _)
 
-pub sent-last : (stream : Stream) (words : List (List ℕ)) (whole : List Cycle) (cycle : Cycle) → cycles (history_of words) ≡ whole ++ cycle ∷ [] → sent_of stream words ≡ sent_over stream whole ++ sent_in (left_after stream whole) cycle
+pub sent-last : (stream : Stream) (words : List (List ℕ)) (whole : List Cycle) (cycle : Cycle) → cycles (history_of words) ≡ whole ++ cycle ∷ [] → sent_of stream words ≡ sent_over stream whole
+    ++ sent_in (left_after stream whole) cycle
 unfolding sent_of
 sent-last stream words whole cycle is = ap (sent_over stream) is ∙ sent_over-push stream whole cycle
 
 -- a last cycle with more entries
-pub log-more : (words others : List (List ℕ)) (whole : List Cycle) (cycle next : Cycle) (more : List Entry) → cycles (history_of words) ≡ whole ++ cycle ∷ [] → cycles (history_of others) ≡ whole ++ next ∷ [] → cycle_log next ≡ cycle_log cycle ++ more → log_of others ≡ log_of words ++ more
+pub log-more : (words others : List (List ℕ)) (whole : List Cycle) (cycle next : Cycle) (more : List Entry) → cycles (history_of words) ≡ whole ++ cycle ∷ [] → cycles (history_of others) ≡ whole
+    ++ next ∷ [] → cycle_log next ≡ cycle_log cycle ++ more → log_of others ≡ log_of words ++ more
 log-more words others whole cycle next more is then_is e =
     log-last others whole next then_is
     ∙ ap (λ es. flat_map cycle_log whole ++ es) e
     ∙ sym (append_assoc (flat_map cycle_log whole) (cycle_log cycle) more)
     ∙ ap (λ es. es ++ more) (sym (log-last words whole cycle is))
 
-pub sent-more : (stream : Stream) (words others : List (List ℕ)) (whole : List Cycle) (cycle next : Cycle) (more : List Entry) → cycles (history_of words) ≡ whole ++ cycle ∷ [] → cycles (history_of others) ≡ whole ++ next ∷ []
+pub sent-more : (stream : Stream) (words others : List (List ℕ)) (whole : List Cycle) (cycle next : Cycle) (more : List Entry) → cycles (history_of words) ≡ whole ++ cycle ∷ []
+    → cycles (history_of others) ≡ whole ++ next ∷ []
     → sent_in (left_after stream whole) next ≡ sent_in (left_after stream whole) cycle ++ more → sent_of stream others ≡ sent_of stream words ++ more
 sent-more stream words others whole cycle next more is then_is e =
     sent-last stream others whole next then_is
@@ -70,14 +73,16 @@ sent-more stream words others whole cycle next more is then_is e =
     ∙ ap (λ es. es ++ more) (sym (sent-last stream words whole cycle is))
 
 -- one more message sent, where no value is; one more value sent
-pub sent-long : (stream : Stream) (cycle next : Cycle) (more : List (List ℕ)) → shorts_sent stream cycle ≡ [] → shorts_sent stream next ≡ [] → longs_sent stream next ≡ longs_sent stream cycle ++ more → sent_in stream next ≡ sent_in stream cycle ++ map long more
+pub sent-long : (stream : Stream) (cycle next : Cycle) (more : List (List ℕ)) → shorts_sent stream cycle ≡ [] → shorts_sent stream next ≡ [] → longs_sent stream next ≡ longs_sent stream cycle ++ more
+    → sent_in stream next ≡ sent_in stream cycle ++ map long more
 sent-long stream cycle next more none then_none e =
     ap₂ (λ longs shorts. map long longs ++ map (λ value. short value 1) shorts) e then_none
     ∙ append-nil _
     ∙ map-append long (longs_sent stream cycle) more
     ∙ ap (λ es. es ++ map long more) (sym (ap (λ shorts. map long (longs_sent stream cycle) ++ map (λ value. short value 1) shorts) none ∙ append-nil _))
 
-pub sent-short : (stream : Stream) (cycle next : Cycle) (more : List (List ℕ)) → longs_sent stream next ≡ longs_sent stream cycle → shorts_sent stream next ≡ shorts_sent stream cycle ++ more → sent_in stream next ≡ sent_in stream cycle ++ map (λ value. short value 1) more
+pub sent-short : (stream : Stream) (cycle next : Cycle) (more : List (List ℕ)) → longs_sent stream next ≡ longs_sent stream cycle → shorts_sent stream next ≡ shorts_sent stream cycle ++ more
+    → sent_in stream next ≡ sent_in stream cycle ++ map (λ value. short value 1) more
 sent-short stream cycle next more same e =
     ap₂ (λ longs shorts. map long longs ++ map (λ value. short value 1) shorts) same e
     ∙ ap (λ es. map long (longs_sent stream cycle) ++ es) (map-append (λ value. short value 1) (shorts_sent stream cycle) more)

@@ -49,7 +49,8 @@ burst-fit b = by_burst (burst_of b.1) refl
 bursts-fit : (bursts : List (ℕ × List (List ℕ))) → HaveRoom (flat_map burst_entries bursts) (length (burst_words bursts))
 bursts-fit [] = fit-none 0
 bursts-fit (b ∷ bursts) =
-    subst (HaveRoom (flat_map burst_entries (b ∷ bursts))) (sym (length-append b.1 (burst_words bursts))) (fit-append (burst_entries b) (flat_map burst_entries bursts) (length b.1) (length (burst_words bursts)) (burst-fit b) (bursts-fit bursts))
+    subst (HaveRoom (flat_map burst_entries (b ∷ bursts))) (sym (length-append b.1 (burst_words bursts))) (fit-append (burst_entries b) (flat_map burst_entries bursts) (length b.1)
+        (length (burst_words bursts)) (burst-fit b) (bursts-fit bursts))
 
 -- leaves
 leaves-fit : (out : List Leaf) → HaveFifteen out → HaveRoom (map leaf_entry out) (length out)
@@ -75,17 +76,20 @@ cycle-size : (cycle : Cycle) → length (burst_words cycle.bursts) + length cycl
 cycle-size cycle = omega (arith, length-append (burst_words cycle.bursts) cycle.since)
 
 -- its messages, or one of them, and its leaves, or one of them, have room
-both-fit : (cycle : Cycle) (messages values : List Entry) → HaveRoom messages (length (burst_words cycle.bursts)) → HaveRoom values (length cycle.since) → HaveRoom (messages ++ values) (length (cycle_words cycle))
+both-fit : (cycle : Cycle) (messages values : List Entry) → HaveRoom messages (length (burst_words cycle.bursts)) → HaveRoom values (length cycle.since) → HaveRoom (messages ++ values)
+    (length (cycle_words cycle))
 both-fit cycle messages values first second = fit-more (messages ++ values) _ _ (fit-append messages values _ _ first second) (cycle-size cycle)
 
 cycle-fit : (cycle : Cycle) → HaveRoom (cycle_log cycle) (length (cycle_words cycle))
 unfolding cycle_log
-cycle-fit cycle = both-fit cycle _ _ (bursts-fit cycle.bursts) (fit-more (map leaf_entry (cycle_leaves cycle)) _ _ (leaves-fit (cycle_leaves cycle) (leaves-fifteen (epoch_words cycle))) (few-leaves cycle))
+cycle-fit cycle = both-fit cycle _ _ (bursts-fit cycle.bursts) (fit-more (map leaf_entry (cycle_leaves cycle)) _ _ (leaves-fit (cycle_leaves cycle) (leaves-fifteen (epoch_words cycle)))
+    (few-leaves cycle))
 
 cycles-fit : (cs : List Cycle) → HaveRoom (flat_map cycle_log cs) (length (flat_map cycle_words cs))
 cycles-fit [] = fit-none 0
 cycles-fit (c ∷ cs) =
-    subst (HaveRoom (flat_map cycle_log (c ∷ cs))) (sym (length-append (cycle_words c) (flat_map cycle_words cs))) (fit-append (cycle_log c) (flat_map cycle_log cs) (length (cycle_words c)) (length (flat_map cycle_words cs)) (cycle-fit c) (cycles-fit cs))
+    subst (HaveRoom (flat_map cycle_log (c ∷ cs))) (sym (length-append (cycle_words c) (flat_map cycle_words cs))) (fit-append (cycle_log c) (flat_map cycle_log cs) (length (cycle_words c))
+        (length (flat_map cycle_words cs)) (cycle-fit c) (cycles-fit cs))
 
 -- the log
 pub log-fit : (words : List (List ℕ)) → HaveRoom (log_of words) (length words)
@@ -106,7 +110,8 @@ few-words_for : (field : ℕ) (bursts : List (ℕ × List (List ℕ))) → lengt
 few-words_for field [] = omega arith
 few-words_for field (b ∷ bursts) = by_test (b.0 == field) (few-words_for field bursts) (length-append b.1 (burst_words bursts))
   where
-    by_test : (test : Bool) → length (words_for field bursts) ≤ length (burst_words bursts) → length (b.1 ++ burst_words bursts) ≡ length b.1 + length (burst_words bursts) → length (cond test b.1 (words_for field bursts)) ≤ length (b.1 ++ burst_words bursts)
+    by_test : (test : Bool) → length (words_for field bursts) ≤ length (burst_words bursts) → length (b.1 ++ burst_words bursts) ≡ length b.1 + length (burst_words bursts)
+        → length (cond test b.1 (words_for field bursts)) ≤ length (b.1 ++ burst_words bursts)
     by_test true le size = omega arith
     by_test false le size = omega arith
 
@@ -117,7 +122,8 @@ long-fit (message ∷ longs) None cycle = fit-none _
 long-fit (message ∷ longs) (Some field) cycle = by_test (gave_message message (message_of (burst_of (words_for field cycle.bursts)))) refl
   where
     by_test : (b : Bool) → gave_message message (message_of (burst_of (words_for field cycle.bursts))) ≡ b → HaveRoom (map long (cond b (message ∷ []) [])) (length (burst_words cycle.bursts))
-    by_test true given = fit-more (long message ∷ []) _ _ (fit-long message (words_for field cycle.bursts) (given-burst message (words_for field cycle.bursts) given)) (few-words_for field cycle.bursts)
+    by_test true given = fit-more (long message ∷ []) _ _ (fit-long message (words_for field cycle.bursts) (given-burst message (words_for field cycle.bursts) given))
+        (few-words_for field cycle.bursts)
     by_test false given = fit-none _
 
 -- a value that a leaf is has fifteen bytes, and there is a leaf
@@ -125,7 +131,8 @@ found-fifteen : (value : List ℕ) (out : List Leaf) → HaveFifteen out → lis
 found-fifteen value [] are found = absurd (true≢false (sym found))
 found-fifteen value (leaf ∷ out) are found = by_test (is_leaf_of value leaf) refl (λ e. (found-fifteen value out are.1 e).0) found
   where
-    by_test : (b : Bool) → is_leaf_of value leaf ≡ b → (list_any (is_leaf_of value) out ≡ true → length value ≡ 15) → (b || list_any (is_leaf_of value) out) ≡ true → (length value ≡ 15) × (1 ≤ length (leaf ∷ out))
+    by_test : (b : Bool) → is_leaf_of value leaf ≡ b → (list_any (is_leaf_of value) out ≡ true → length value ≡ 15) → (b || list_any (is_leaf_of value) out) ≡ true → (length value ≡ 15)
+        × (1 ≤ length (leaf ∷ out))
     by_test true is later e = (ap length (sym ((bytes_eq-Decides leaf.value value).0 (and_parts _ _ (and_parts _ _ is).0).0)) ∙ are.0, omega arith)
     by_test false is later e = (later e, omega arith)
 

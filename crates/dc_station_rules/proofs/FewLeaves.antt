@@ -26,7 +26,8 @@ out-few (unsplit group low high) = by_count (group.count == 1)
 out-few (equal_values leaf) = omega arith
 out-few (parts left right) = by_open (is_some (current left)) (out-few left) (out-few right)
   where
-    by_open : (b : Bool) → length (come_out left) ≤ groups_in left → length (come_out right) ≤ groups_in right → length (cond b (come_out left) (come_out left ++ come_out right)) ≤ groups_in left + groups_in right
+    by_open : (b : Bool) → length (come_out left) ≤ groups_in left → length (come_out right) ≤ groups_in right
+        → length (cond b (come_out left) (come_out left ++ come_out right)) ≤ groups_in left + groups_in right
     by_open true one other = omega arith
     by_open false one other = let both : length (come_out left ++ come_out right) ≡ length (come_out left) + length (come_out right) = length-append (come_out left) (come_out right) in omega arith
 
@@ -48,10 +49,13 @@ put-few word (equal_values leaf) next e = absurd (none-some _ e)
 put-few word (parts left right) next e = by_parts (put word left) (put word right) refl refl e (put-few word left) (put-few word right)
   where
     by_parts : (a b : Option (Result Tree EpochFault)) → put word left ≡ a → put word right ≡ b → option_or (option_map (with_left right) a) (option_map (with_right left) b) ≡ Some (Ok next)
-        → ((n : Tree) → put word left ≡ Some (Ok n) → groups_in n ≤ groups_in left + 1) → ((n : Tree) → put word right ≡ Some (Ok n) → groups_in n ≤ groups_in right + 1) → groups_in next ≤ groups_in left + groups_in right + 1
-    by_parts (Some (Ok l)) b pl pr h one other = let few : groups_in l ≤ groups_in left + 1 = one l pl in subst (λ t. groups_in t ≤ groups_in left + groups_in right + 1) (ok-inj (some-inj h)) (omega arith)
+        → ((n : Tree) → put word left ≡ Some (Ok n) → groups_in n ≤ groups_in left + 1) → ((n : Tree) → put word right ≡ Some (Ok n) → groups_in n ≤ groups_in right + 1)
+            → groups_in next ≤ groups_in left + groups_in right + 1
+    by_parts (Some (Ok l)) b pl pr h one other = let few : groups_in l ≤ groups_in left + 1 = one l pl in subst (λ t. groups_in t ≤ groups_in left + groups_in right + 1)
+        (ok-inj (some-inj h)) (omega arith)
     by_parts (Some (Err f)) b pl pr h one other = absurd (err-ok (some-inj h))
-    by_parts None (Some (Ok r)) pl pr h one other = let few : groups_in r ≤ groups_in right + 1 = other r pr in subst (λ t. groups_in t ≤ groups_in left + groups_in right + 1) (ok-inj (some-inj h)) (omega arith)
+    by_parts None (Some (Ok r)) pl pr h one other = let few : groups_in r ≤ groups_in right + 1 = other r pr in subst (λ t. groups_in t ≤ groups_in left + groups_in right + 1)
+        (ok-inj (some-inj h)) (omega arith)
     by_parts None (Some (Err f)) pl pr h one other = absurd (err-ok (some-inj h))
     by_parts None None pl pr h one other = absurd (none-some _ h)
 
@@ -94,4 +98,5 @@ leaves-within (void_epoch out fault) count few = few
 -- after so many words at most as many leaves have come out
 pub leaves_are_few : LeavesAreFew
 unfolding epoch_of Within
-leaves_are_few words = let place : 0 + length words ≡ length words = omega arith in leaves-within (epoch_of words) (length words) (subst (Within (epoch_of words)) place (words-within unbegun words 0 tt))
+leaves_are_few words = let place : 0 + length words ≡ length words = omega arith in leaves-within (epoch_of words) (length words) (subst (Within (epoch_of words)) place
+    (words-within unbegun words 0 tt))

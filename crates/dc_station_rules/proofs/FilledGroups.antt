@@ -30,7 +30,8 @@ put-filled word (unsplit group low high) next is e = by_count (nat_lt group.coun
 put-filled word (equal_values leaf) next is e = absurd (none-some _ e)
 put-filled word (parts left right) next is e = by_parts (put word left) (put word right) (put-filled word left) (put-filled word right) refl refl e
   where
-    by_parts : (a b : Option (Result Tree EpochFault)) → ((n : Tree) → HasNoEmptyGroup left → put word left ≡ Some (Ok n) → HasNoEmptyGroup n) → ((n : Tree) → HasNoEmptyGroup right → put word right ≡ Some (Ok n) → HasNoEmptyGroup n)
+    by_parts : (a b : Option (Result Tree EpochFault)) → ((n : Tree) → HasNoEmptyGroup left → put word left ≡ Some (Ok n) → HasNoEmptyGroup n) → ((n : Tree) → HasNoEmptyGroup right → put word right
+        ≡ Some (Ok n) → HasNoEmptyGroup n)
         → put word left ≡ a → put word right ≡ b → option_or (option_map (with_left right) a) (option_map (with_right left) b) ≡ Some (Ok next) → HasNoEmptyGroup next
     by_parts (Some (Ok l)) b one other pl pr h = subst HasNoEmptyGroup (ok-inj (some-inj h)) (one l is.0 pl, is.1)
     by_parts (Some (Err f)) b one other pl pr h = absurd (err-ok (some-inj h))

@@ -46,7 +46,8 @@ epoch-ends words = ap is_over (with_words-append unbegun words (breaking ∷ [])
 low-count : (words : List (List ℕ)) → NotYet is_burst words → (i : ℕ) → i < length words → word_count (nth_word words i) ≤ 256
 low-count words still i lt =
     let counts : word_count (nth_word words i) + i ≡ word_count (nth_word words 0) = count-at words (open-passes words still) i lt in
-    let most : word_count (nth_word words 0) ≤ 256 = leb-true (word_count (nth_word words 0)) 256 (and_parts (nat_le 1 (word_count (nth_word words 0))) (nat_le (word_count (nth_word words 0)) 256) (open-passes words still 0 (omega arith)).count).1 in
+    let most : word_count (nth_word words 0) ≤ 256 = leb-true (word_count (nth_word words 0)) 256 (and_parts (nat_le 1 (word_count (nth_word words 0))) (nat_le (word_count (nth_word words 0)) 256)
+        (open-passes words still 0 (omega arith)).count).1 in
     omega arith
 
 -- so that word ends a burst
@@ -56,7 +57,8 @@ burst-ends words still = by_test (is_burst (words ++ breaking ∷ [])) refl
     by_test : (b : Bool) → is_burst (words ++ breaking ∷ []) ≡ b → b ≡ true
     by_test true e = refl
     by_test false e =
-        let low : word_count (nth_word (words ++ breaking ∷ []) (length words)) ≤ 256 = low-count (words ++ breaking ∷ []) (open-still is_burst words breaking still e) (length words) (omega (arith, length_push words breaking)) in
+        let low : word_count (nth_word (words ++ breaking ∷ []) (length words)) ≤ 256 = low-count (words ++ breaking ∷ []) (open-still is_burst words breaking still e) (length words)
+            (omega (arith, length_push words breaking)) in
         let count : word_count (nth_word (words ++ breaking ∷ []) (length words)) ≡ 300 = ap word_count (get_or_push words breaking [] (length words) refl) in
         absurd (omega arith)
 
@@ -99,7 +101,8 @@ spelled : (bursts more : List (ℕ × List (List ℕ))) (field : ℕ) (since : L
 spelled bursts more field since word rest = ap (λ ws. ws ++ rest) (flat_map-append (λ (b : ℕ × List (List ℕ)). b.1) bursts ((field, since ++ word ∷ []) ∷ more)) ∙ simp append_assoc
 
 -- a begun cycle and what makes it whole, by the fields left
-completed : (cycle : Cycle) (left : List ℕ) → burst_fields cycle.bursts ++ left ≡ granted cycle.reservation → AreBursts cycle.bursts → NotYet (is_all_of_next left) cycle.since → IsProperPrefixOfWhole (cycle_words cycle)
+completed : (cycle : Cycle) (left : List ℕ) → burst_fields cycle.bursts ++ left ≡ granted cycle.reservation → AreBursts cycle.bursts → NotYet (is_all_of_next left) cycle.since
+    → IsProperPrefixOfWhole (cycle_words cycle)
 completed cycle [] fields are still = record {
   whole = record { reservation = cycle.reservation; bursts = cycle.bursts; since = cycle.since ++ breaking ∷ [] };
   is_whole = record { fields = sym (append-nil (burst_fields cycle.bursts)) ∙ fields; bursts = are; epoch = ends-now is_epoch cycle.since breaking still (epoch-ends cycle.since) };
@@ -111,8 +114,10 @@ completed cycle [] fields are still = record {
 completed cycle (field ∷ left) fields are still = record {
   whole = record { reservation = cycle.reservation; bursts = cycle.bursts ++ (field, cycle.since ++ breaking ∷ []) ∷ broken left; since = breaking ∷ [] };
   is_whole = record {
-    fields = map-append (λ (b : ℕ × List (List ℕ)). b.0) cycle.bursts ((field, cycle.since ++ breaking ∷ []) ∷ broken left) ∙ ap (λ fs. burst_fields cycle.bursts ++ field ∷ fs) (broken-fields left) ∙ fields;
-    bursts = each-append (λ (b : ℕ × List (List ℕ)). IsBurst b.1) cycle.bursts ((field, cycle.since ++ breaking ∷ []) ∷ broken left) are (ends-now is_burst cycle.since breaking still (burst-ends cycle.since still), broken-bursts left);
+    fields = map-append (λ (b : ℕ × List (List ℕ)). b.0) cycle.bursts ((field, cycle.since ++ breaking ∷ []) ∷ broken left) ∙ ap (λ fs. burst_fields cycle.bursts ++ field ∷ fs) (broken-fields left)
+        ∙ fields;
+    bursts = each-append (λ (b : ℕ × List (List ℕ)). IsBurst b.1) cycle.bursts ((field, cycle.since ++ breaking ∷ []) ∷ broken left) are (ends-now is_burst cycle.since breaking still
+        (burst-ends cycle.since still), broken-bursts left);
     epoch = ends-now is_epoch [] breaking (nothing-open []) (epoch-ends []);
   };
   next = breaking;
@@ -130,8 +135,10 @@ nothing-more : (first whole : Cycle) (rest : List (List ℕ)) → IsWholeCycle f
 nothing-more first whole rest is_first is_whole same =
     let after = cycles_in_one_way rest in
     let one = cycles_in_one_way (cycle_words whole) in
-    let alone : record { whole = whole ∷ []; begun = None } ≡ history_of (cycle_words whole) = one.only (record { whole = whole ∷ []; begun = None }) (record { whole = (is_whole, tt); begun = tt }) (append-nil (cycle_words whole)) in
-    let joined : record { whole = first ∷ (history_of rest).whole; begun = (history_of rest).begun } ≡ history_of (cycle_words whole) = one.only (record { whole = first ∷ (history_of rest).whole; begun = (history_of rest).begun }) (record { whole = (is_first, after.is_history.whole); begun = after.is_history.begun }) (ap (λ ws. cycle_words first ++ ws) after.spells ∙ sym same) in
+    let alone : record { whole = whole ∷ []; begun = None } ≡ history_of (cycle_words whole) = one.only (record { whole = whole ∷ []; begun = None }) (record { whole = (is_whole, tt); begun = tt })
+        (append-nil (cycle_words whole)) in
+    let joined : record { whole = first ∷ (history_of rest).whole; begun = (history_of rest).begun } ≡ history_of (cycle_words whole) = one.only (record { whole = first ∷ (history_of rest).whole;
+        begun = (history_of rest).begun }) (record { whole = (is_first, after.is_history.whole); begun = after.is_history.begun }) (ap (λ ws. cycle_words first ++ ws) after.spells ∙ sym same) in
     sym after.spells ∙ ap (λ (h : History). flat_map cycle_words (drop 1 h.whole ++ option_to_list h.begun)) (joined ∙ sym alone)
 
 -- and each proper prefix, of one word or more, is the words of a begun one
@@ -141,7 +148,8 @@ prefix_is_begun word words complete next more is_complete goes_on =
     let one = cycles_in_one_way (word ∷ words) in
     by_parts (history_of (word ∷ words)).whole (history_of (word ∷ words)).begun one.is_history.whole one.is_history.begun one.spells
   where
-    by_parts : (whole : List Cycle) (begun : Option Cycle) → AllByRecursion IsWholeCycle whole → IfSome begun IsBegunCycle → flat_map cycle_words (whole ++ option_to_list begun) ≡ word ∷ words → (cycle : Cycle) × IsBegunCycle cycle × (cycle_words cycle ≡ word ∷ words)
+    by_parts : (whole : List Cycle) (begun : Option Cycle) → AllByRecursion IsWholeCycle whole → IfSome begun IsBegunCycle → flat_map cycle_words (whole ++ option_to_list begun) ≡ word ∷ words
+        → (cycle : Cycle) × IsBegunCycle cycle × (cycle_words cycle ≡ word ∷ words)
     by_parts [] None wholes is_begun spells = absurd (cons≢nil (sym spells))
     by_parts [] (Some cycle) wholes is_begun spells = (cycle, is_begun, sym (append-nil (cycle_words cycle)) ∙ spells)
     by_parts (first ∷ others) begun wholes is_begun spells =

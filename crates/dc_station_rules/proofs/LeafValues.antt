@@ -55,7 +55,8 @@ put-values word (unsplit group low high) next are e = by_count (nat_lt group.cou
 put-values word (equal_values leaf) next are e = absurd (none-some _ e)
 put-values word (parts left right) next are e = by_parts (put word left) (put word right) (λ n. put-values word left n are.0) (λ n. put-values word right n are.1) e
   where
-    by_parts : (a b : Option (Result Tree EpochFault)) → ((n : Tree) → a ≡ Some (Ok n) → HasValues n) → ((n : Tree) → b ≡ Some (Ok n) → HasValues n) → option_or (option_map (with_left right) a) (option_map (with_right left) b) ≡ Some (Ok next) → HasValues next
+    by_parts : (a b : Option (Result Tree EpochFault)) → ((n : Tree) → a ≡ Some (Ok n) → HasValues n) → ((n : Tree) → b ≡ Some (Ok n) → HasValues n) → option_or (option_map (with_left right) a)
+        (option_map (with_right left) b) ≡ Some (Ok next) → HasValues next
     by_parts (Some (Ok l)) b one other h = subst HasValues (ok-inj (some-inj h)) (one l refl, are.1)
     by_parts (Some (Err f)) b one other h = absurd (err-ok (some-inj h))
     by_parts None (Some (Ok r)) one other h = subst HasValues (ok-inj (some-inj h)) (are.0, other r refl)

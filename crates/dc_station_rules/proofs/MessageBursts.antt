@@ -50,7 +50,8 @@ fragment-fits message is (suc i) lt = rw (fragment-count message (suc i) lt, fra
 
 -- the length fits
 fragment-told : (message : List ℕ) → IsMessage message → (i : ℕ) → i < fragment_count (length message) → LengthFits (fragments message) i
-fragment-told message is zero lt = let all : fragment_count (length message) ≡ fragment_count (length message) - 0 = omega arith in ap fragment_count (fragments-tell message is) ∙ all ∙ sym (fragment-count message 0 lt)
+fragment-told message is zero lt = let all : fragment_count (length message) ≡ fragment_count (length message) - 0 = omega arith in ap fragment_count (fragments-tell message is) ∙ all
+    ∙ sym (fragment-count message 0 lt)
 fragment-told message is (suc i) lt = tt
 
 -- each fragment breaks no check
@@ -60,7 +61,8 @@ fragment-passes message is i lt = record {
   limbs = λ l few.
       let next : 1 + l ≡ l + 1 = omega arith in
       let byte : get_or (burst_bytes message) (15 * i + l) 0 < 256 = burst-byte message is (15 * i + l) in
-      let same : slice_index (nth_word (fragments message) i) (l + 1) ≡ get_or (burst_bytes message) (15 * i + l) 0 = ap (λ w. slice_index w (l + 1)) (word_at-fragments message i lt) ∙ fragment-limb message i l few in
+      let same : slice_index (nth_word (fragments message) i) (l + 1) ≡ get_or (burst_bytes message) (15 * i + l) 0 = ap (λ w. slice_index w (l + 1)) (word_at-fragments message i lt)
+          ∙ fragment-limb message i l few in
       rw (next, same) (omega arith);
   told = fragment-told message is i lt;
   padding = λ one at few.
@@ -91,10 +93,12 @@ filter-last h a (suc n) x each last =
 -- words without a fault
 pub clean-burst : (words : List (List ℕ)) → ((i : ℕ) → i < length words → fault_at words i ≡ None) → burst_of words ≡ burst_by_faults words []
 unfolding burst_of burst_faults
-clean-burst words each = ap (burst_by_faults words) (filter-none (fault_at words) 0 (length words) (λ i lt. let place : i ≡ 0 + i = omega arith in subst (λ k. fault_at words k ≡ None) place (each i lt)))
+clean-burst words each = ap (burst_by_faults words) (filter-none (fault_at words) 0 (length words) (λ i lt. let place : i ≡ 0 + i = omega arith in subst (λ k. fault_at words k ≡ None) place
+    (each i lt)))
 
 -- words of which the last breaks a check first
-pub broken-burst : (before : List (List ℕ)) (word : List ℕ) (fault : BurstFault) → ((i : ℕ) → i < length before → fault_at (before ++ word ∷ []) i ≡ None) → fault_at (before ++ word ∷ []) (length before) ≡ Some fault → burst_of (before ++ word ∷ []) ≡ void_burst fault
+pub broken-burst : (before : List (List ℕ)) (word : List ℕ) (fault : BurstFault) → ((i : ℕ) → i < length before → fault_at (before ++ word ∷ []) i ≡ None) → fault_at (before ++ word ∷ [])
+    (length before) ≡ Some fault → burst_of (before ++ word ∷ []) ≡ void_burst fault
 unfolding burst_of burst_faults
 broken-burst before word fault each last =
     let size : length (before ++ word ∷ []) ≡ suc (length before) = length-append before (word ∷ []) ∙ omega arith in
@@ -177,7 +181,8 @@ whole-size words is =
     let counts : word_count (nth_word words (length words - 1)) + (length words - 1) ≡ word_count (nth_word words 0) = count-at words is.each (length words - 1) (omega arith) in
     let last : word_count (nth_word words (length words - 1)) ≡ 1 = is.last in
     let same : word_count (nth_word words 0) ≡ length words = omega arith in
-    let most : word_count (nth_word words 0) ≤ 256 = leb-true (word_count (nth_word words 0)) 256 (and_parts (nat_le 1 (word_count (nth_word words 0))) (nat_le (word_count (nth_word words 0)) 256) (is.each 0 some).count).1 in
+    let most : word_count (nth_word words 0) ≤ 256 = leb-true (word_count (nth_word words 0)) 256 (and_parts (nat_le 1 (word_count (nth_word words 0))) (nat_le (word_count (nth_word words 0)) 256)
+        (is.each 0 some).count).1 in
     (same, omega arith, (is.each 0 some).told ∙ same)
 
 -- no words go on

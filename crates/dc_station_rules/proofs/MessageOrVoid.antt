@@ -22,7 +22,8 @@ message-ends words message is =
     )
 
 -- the words before the breaking one are clean
-before-clean : (before : List (List ℕ)) (word next : List ℕ) (more : List (List ℕ)) (message : List ℕ) → IsMessageBurst (before ++ next ∷ more) message → (i : ℕ) → i < length before → fault_at (before ++ word ∷ []) i ≡ None
+before-clean : (before : List (List ℕ)) (word next : List ℕ) (more : List (List ℕ)) (message : List ℕ) → IsMessageBurst (before ++ next ∷ more) message → (i : ℕ) → i < length before
+    → fault_at (before ++ word ∷ []) i ≡ None
 before-clean before word next more message is i lt =
     let size : length before + length (next ∷ more) ≡ length (before ++ next ∷ more) = sym (length-append before (next ∷ more)) in
     fault_at-append before (word ∷ []) i lt ∙ sym (fault_at-append before (next ∷ more) i lt)
@@ -31,14 +32,17 @@ before-clean before word next more message is i lt =
 -- a void burst ends with its last word
 void-ends : (words : List (List ℕ)) (fault : BurstFault) → IsVoidBurst words fault → IsBurst words × (burst_of words ≡ void_burst fault)
 void-ends words fault void =
-    let same : burst_of words ≡ void_burst fault = ap burst_of void.is ∙ broken-burst void.before void.word fault (before-clean void.before void.word void.next void.more void.message void.is_part) (ap (λ ws. fault_at ws (length void.before)) (sym void.is) ∙ void.breaks) in (
+    let same : burst_of words ≡ void_burst fault = ap burst_of void.is ∙ broken-burst void.before void.word fault (before-clean void.before void.word void.next void.more void.message void.is_part)
+        (ap (λ ws. fault_at ws (length void.before)) (sym void.is) ∙ void.breaks) in (
       record { ended = ap has_ended same; before = λ front word rest e. by_gap front (split_before void.before void.word front word rest (sym void.is ∙ e)) },
       same,
     )
   where
     by_gap : (front : List (List ℕ)) → (gap : List (List ℕ)) × (void.before ≡ front ++ gap) → is_burst front ≡ false
-    by_gap front ([], e) = ap has_ended (front-goes front void.next void.more void.message (subst (λ ws. IsMessageBurst (ws ++ void.next ∷ void.more) void.message) (e ∙ append-nil front) void.is_part))
-    by_gap front (g ∷ gap, e) = ap has_ended (front-goes front g (gap ++ void.next ∷ void.more) void.message (subst (λ ws. IsMessageBurst ws void.message) (append_assoc front (g ∷ gap) (void.next ∷ void.more)) (subst (λ ws. IsMessageBurst (ws ++ void.next ∷ void.more) void.message) e void.is_part)))
+    by_gap front ([], e) = ap has_ended (front-goes front void.next void.more void.message (subst (λ ws. IsMessageBurst (ws ++ void.next ∷ void.more) void.message) (e
+        ∙ append-nil front) void.is_part))
+    by_gap front (g ∷ gap, e) = ap has_ended (front-goes front g (gap ++ void.next ∷ void.more) void.message (subst (λ ws. IsMessageBurst ws void.message) (append_assoc front (g ∷ gap) (void.next
+        ∷ void.more)) (subst (λ ws. IsMessageBurst (ws ++ void.next ∷ void.more) void.message) e void.is_part)))
 
 -- a list that has a last item
 record Last (words : List (List ℕ)) : Type 0 where
@@ -82,7 +86,8 @@ by-last before word are ended = by_fault (fault_at (before ++ word ∷ []) (leng
         by_place true few = clean i (ltb-true _ _ few)
         by_place false past = let place : length before ≡ i = omega (arith, size, lt, ltb-false _ _ past) in subst (λ k. fault_at (before ++ word ∷ []) k ≡ None) place e
 
-    by_count : fault_at (before ++ word ∷ []) (length before) ≡ None → (b : Bool) → (word_count (nth_word (before ++ word ∷ []) (length (before ++ word ∷ []) - 1)) == 1) ≡ b → OneOf (before ++ word ∷ [])
+    by_count : fault_at (before ++ word ∷ []) (length before) ≡ None → (b : Bool) → (word_count (nth_word (before ++ word ∷ []) (length (before ++ word ∷ []) - 1)) == 1) ≡ b
+        → OneOf (before ++ word ∷ [])
     by_count e true one = inl (
       carried_message (before ++ word ∷ []),
       whole-IsMessageBurst (before ++ word ∷ []) (record {

@@ -7,8 +7,8 @@ use Rattle.dc_spec.specs.Groups.{GroupFault, Group, group_of}
 use Rattle.dc_station_rules.specs.Epochs.{Leaf, EpochFault, Tree, unsplit, equal_values, parts, split_by, with_left, with_right, put, current, come_out, Epoch, unbegun, resolving, void_epoch, root_or_fault, grown_tree, with_word, epoch_of, leaves, leaves_at}
 use Rattle.dc_spec.proofs.GroupLemmas.{err-ok, ok-inj}
 use Rattle.dc_station_rules.proofs.Putting.{none-is, open-same, put-open, out-parts}
-use Rattle.dc_spec.proofs.Options.{some-inj}
 use Rattle.dc_station_rules.proofs.Pushes.{epoch_of-push}
+use Rattle.dc_spec.proofs.Options.{some-inj}
 
 -- leaves and more of them
 Adds : List Leaf → List Leaf → Type 0
@@ -66,8 +66,10 @@ put-adds word (equal_values leaf) next e = absurd (none-some _ e)
 put-adds word (parts left right) next e = by_parts (put word left) (put word right) refl refl e (put-adds word left) (put-adds word right)
   where
     by_parts : (a b : Option (Result Tree EpochFault)) → put word left ≡ a → put word right ≡ b → option_or (option_map (with_left right) a) (option_map (with_right left) b) ≡ Some (Ok next)
-        → ((n : Tree) → put word left ≡ Some (Ok n) → Adds (come_out left) (come_out n)) → ((n : Tree) → put word right ≡ Some (Ok n) → Adds (come_out right) (come_out n)) → Adds (come_out (parts left right)) (come_out next)
-    by_parts (Some (Ok l)) b pl pr h one other = subst (λ t. Adds (come_out (parts left right)) (come_out t)) (ok-inj (some-inj h)) (left-adds left right l (put-open word left (Ok l) pl) (one l pl))
+        → ((n : Tree) → put word left ≡ Some (Ok n) → Adds (come_out left) (come_out n)) → ((n : Tree) → put word right ≡ Some (Ok n) → Adds (come_out right) (come_out n))
+            → Adds (come_out (parts left right)) (come_out next)
+    by_parts (Some (Ok l)) b pl pr h one other = subst (λ t. Adds (come_out (parts left right)) (come_out t)) (ok-inj (some-inj h)) (left-adds left right l (put-open word left (Ok l) pl)
+        (one l pl))
     by_parts (Some (Err f)) b pl pr h one other = absurd (err-ok (some-inj h))
     by_parts None (Some (Ok r)) pl pr h one other =
         let closed : current left ≡ None = none-is (current left) (sym (open-same word left) ∙ ap is_none pl) in

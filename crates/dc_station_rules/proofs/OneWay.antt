@@ -169,7 +169,8 @@ history_of-words history is =
     ∙ takes_rest history.whole history.begun is.begun
 
 -- where one more word is split elsewhere, the split lies within the words before it
-pub split_before : (xs : List (List ℕ)) (x : List ℕ) (front : List (List ℕ)) (word : List ℕ) (rest : List (List ℕ)) → xs ++ x ∷ [] ≡ front ++ word ∷ rest → (more : List (List ℕ)) × (xs ≡ front ++ more)
+pub split_before : (xs : List (List ℕ)) (x : List ℕ) (front : List (List ℕ)) (word : List ℕ) (rest : List (List ℕ)) → xs ++ x ∷ [] ≡ front ++ word ∷ rest → (more : List (List ℕ))
+    × (xs ≡ front ++ more)
 split_before xs x [] word rest e = (xs, refl)
 split_before [] x (f ∷ []) word rest e = absurd (cons≢nil (ap (drop 1) (sym e)))
 split_before [] x (f ∷ g ∷ front) word rest e = absurd (cons≢nil (ap (drop 1) (sym e)))
@@ -219,7 +220,8 @@ burst-push : (whole : List Cycle) (r : List ℕ) (bursts : List (ℕ × List (Li
     → history_words (begun whole r (bursts ++ (field, words) ∷ []) []) ≡ history_words (begun whole r bursts words)
 burst-push whole r bursts field words =
     words-push whole _
-    ∙ ap (λ ws. flat_map cycle_words whole ++ r ∷ ws) (append-nil _ ∙ flat_map-append (λ (b : ℕ × List (List ℕ)). b.1) bursts ((field, words) ∷ []) ∙ ap (λ ws. burst_words bursts ++ ws) (append-nil words))
+    ∙ ap (λ ws. flat_map cycle_words whole ++ r ∷ ws) (append-nil _ ∙ flat_map-append (λ (b : ℕ × List (List ℕ)). b.1) bursts ((field, words) ∷ []) ∙ ap (λ ws. burst_words bursts ++ ws)
+        (append-nil words))
     ∙ sym (words-push whole _)
 
 -- the step, where the next history is known
@@ -235,9 +237,11 @@ step_begun whole r bursts since word left wholes fields are open_still false e =
     (goes_on whole r bursts since word left (left_over bursts (granted r) left fields) e)
     (record { whole = wholes; begun = record { left = left; fields = fields; bursts = are; since = open-still (is_all_of_next left) since word open_still e } })
     (since-push whole r bursts since word)
-step_begun whole r bursts since word [] wholes fields are open_still true e = stepped (begun whole r bursts since) (done (whole ++ record { reservation = r; bursts = bursts; since = since ++ word ∷ [] } ∷ [])) word
+step_begun whole r bursts since word [] wholes fields are open_still true e = stepped (begun whole r bursts since) (done (whole ++ record { reservation = r; bursts = bursts; since = since ++ word
+    ∷ [] } ∷ [])) word
     (ends_epoch whole r bursts since word (left_over bursts (granted r) [] fields) e)
-    (record { whole = each-push IsWholeCycle whole _ wholes (record { fields = sym (append-nil (burst_fields bursts)) ∙ fields; bursts = are; epoch = ends-now is_epoch since word open_still e }); begun = tt })
+    (record { whole = each-push IsWholeCycle whole _ wholes (record { fields = sym (append-nil (burst_fields bursts)) ∙ fields; bursts = are; epoch = ends-now is_epoch since word open_still e });
+        begun = tt })
     (ap (flat_map cycle_words) (append-nil (whole ++ record { reservation = r; bursts = bursts; since = since ++ word ∷ [] } ∷ [])) ∙ since-push whole r bursts since word)
 step_begun whole r bursts since word (field ∷ left) wholes fields are open_still true e = stepped (begun whole r bursts since) (begun whole r (bursts ++ (field, since ++ word ∷ []) ∷ []) []) word
     (ends_burst whole r bursts since word field left (left_over bursts (granted r) (field ∷ left) fields) e)
@@ -258,7 +262,8 @@ step whole None word wholes is = stepped (done whole) (begun whole word [] []) w
     (opens whole word)
     (record { whole = wholes; begun = record { left = granted word; fields = refl; bursts = tt; since = nothing-open (granted word) } })
     (words-push whole (opened word) ∙ ap (λ cs. flat_map cycle_words cs ++ word ∷ []) (sym (append-nil whole)))
-step whole (Some cycle) word wholes is = step_begun whole cycle.reservation cycle.bursts cycle.since word is.left wholes is.fields is.bursts is.since (is_all_of_next is.left (cycle.since ++ word ∷ [])) refl
+step whole (Some cycle) word wholes is = step_begun whole cycle.reservation cycle.bursts cycle.since word is.left wholes is.fields is.bursts is.since (is_all_of_next is.left (cycle.since ++ word
+    ∷ [])) refl
 
 -- more words of any history
 steps : (history : History) (words : List (List ℕ)) → IsHistory history → IsHistory (with_rest history words) × (history_words (with_rest history words) ≡ history_words history ++ words)

@@ -20,7 +20,8 @@ none-filter : {A : Type 0} (h : ℕ → Option A) (a n i : ℕ) → filter_map h
 none-filter h a zero i e lt = absurd (omega arith)
 none-filter {A = A} h a (suc n) i e lt = by_first (h a) refl e i lt (λ j r few. none-filter h (a + 1) n j r few)
   where
-    by_first : (o : Option A) → h a ≡ o → cons_option o (filter_map h (range_with_len (a + 1) n)) ≡ [] → (i : ℕ) → i < suc n → ((j : ℕ) → filter_map h (range_with_len (a + 1) n) ≡ [] → j < n → h (a + 1 + j) ≡ None) → h (a + i) ≡ None
+    by_first : (o : Option A) → h a ≡ o → cons_option o (filter_map h (range_with_len (a + 1) n)) ≡ [] → (i : ℕ) → i < suc n → ((j : ℕ) → filter_map h (range_with_len (a + 1) n) ≡ [] → j < n
+        → h (a + 1 + j) ≡ None) → h (a + i) ≡ None
     by_first (Some x) is r i few again = absurd (cons≢nil r)
     by_first None is r zero few again = let place : a ≡ a + 0 = omega arith in subst (λ k. h k ≡ None) place is
     by_first None is r (suc i) few again = let place : a + 1 + i ≡ a + suc i = omega arith in subst (λ k. h k ≡ None) place (again i r (omega arith))
@@ -69,7 +70,8 @@ above-one (suc (suc c)) some other = omega arith
 -- and has a count of 2 or more
 two-left : (words : List (List ℕ)) → NotYet is_burst words → (i : ℕ) → i < length words → 2 ≤ word_count (nth_word words i)
 two-left words still zero lt =
-    let fits : 1 ≤ word_count (nth_word words 0) = leb-true 1 (word_count (nth_word words 0)) (and_parts (nat_le 1 (word_count (nth_word words 0))) (nat_le (word_count (nth_word words 0)) 256) (open-passes words still zero lt).count).0 in
+    let fits : 1 ≤ word_count (nth_word words 0) = leb-true 1 (word_count (nth_word words 0)) (and_parts (nat_le 1 (word_count (nth_word words 0))) (nat_le (word_count (nth_word words 0)) 256)
+        (open-passes words still zero lt).count).0 in
     let other : word_count (nth_word words 0) ≡ 1 → ⊥ = not-one words still 0 lt in
     above-one _ fits other
 two-left words still (suc i) lt =
@@ -217,7 +219,8 @@ full-passes words more is i lt = by_place (nat_lt i (length words)) refl
     by_place true few = passes (full words more) i (first-clean words more is i (ltb-true _ _ few))
     by_place false past = record {
       count = fits i (ltb-false _ _ past) below;
-      limbs = λ l few. let word : nth_word (full words more) i ≡ (length words + more - i) ∷ replicate 15 0 = full-past words more i (ltb-false _ _ past) below in rw word (subst (λ x. x ≤ 255) (sym (zeros-at (length words + more - i) l)) (omega arith));
+      limbs = λ l few. let word : nth_word (full words more) i ≡ (length words + more - i) ∷ replicate 15 0 = full-past words more i (ltb-false _ _ past) below in
+          rw word (subst (λ x. x ≤ 255) (sym (zeros-at (length words + more - i) l)) (omega arith));
       told = told i (ltb-false _ _ past);
       padding = λ one at few. full-padding words more is i below (ltb-false _ _ past) one at few;
     }
@@ -229,7 +232,8 @@ full-Whole words more is =
     let some : 0 < length words = is.some in
     let low : word_count (nth_word words 0) ≤ 256 = is.low_first in
     let first : word_count (nth_word words 0) ≡ length words + more = is.first_is in
-    let counts : word_count (nth_word (full words more) (length words + more - 1)) + (length words + more - 1) ≡ length words + more = full-count words more is (length words + more - 1) (omega arith) in
+    let counts : word_count (nth_word (full words more) (length words + more - 1)) + (length words + more - 1) ≡ length words + more = full-count words more is (length words + more - 1)
+        (omega arith) in
     record { are_words = full-AreWords words more is.are_words (omega arith); each = full-passes words more is; some = omega arith; last = rw size (omega arith) }
 
 -- an open burst of some words is a proper prefix of a message burst
@@ -241,7 +245,8 @@ pub record Part (words : List (List ℕ)) : Type 0 where
 
 pub some-part : (words : List (List ℕ)) → AreWords words → NotYet is_burst words → Part words
 unfolding full countdown fragments fragment
-some-part [] are still = record { message = []; next = fragment [] 0; more = []; is_part = record { is_message = record { most = omega arith; are_bytes = λ i d lt. omega arith }; are_fragments = refl } }
+some-part [] are still = record { message = []; next = fragment [] 0; more = []; is_part = record { is_message = record { most = omega arith; are_bytes = λ i d lt. omega arith }; are_fragments =
+    refl } }
 some-part (word ∷ words) are still = by_more (word_count word - length (word ∷ words)) refl
   where
     low : word_count word ≤ 256

@@ -2,11 +2,11 @@
 use Rattle.std.proofs.Common.{◌≡◌, ℕ, zero, suc, ◌+◌, ◌<◌, ◌≤◌, min, max, Bool, true, false, cond, nat_lt, ◌==◌, List, [], ◌∷◌, ◌++◌, length, Option, Some, None, Result, Ok, Err, option_map, refl, sym, ap, ap₂, ◌∙◌, subst, arith, true≢false, lt-ltb, le-ltb, eq-eqb, ne_eqb, eqb-true, ◌≢◌, length-append}
 use Rattle.std.specs.Option.{option_or, is_none}
 use Rattle.std.proofs.lemmas.Option.{none-some}
-use Rattle.dc_spec.proofs.Options.{some-inj}
 use Rattle.dc_spec.proofs.GroupLemmas.{err-ok, ok-inj, minus-ok}
 use Rattle.dc_spec.specs.Groups.{Group, GroupFault, SplitFault, group_of, minus, uneven_limb}
 use Rattle.dc_station_rules.specs.Epochs.{Leaf, EpochFault, Tree, unsplit, equal_values, parts, leaf_of, mean_of, equal_or_fault, split_or_fault, split_by_group, two_parts, split_by, with_left, with_right, put, Ranged, current, come_out, resolving, with_words}
 use Rattle.dc_station_rules.specs.Resolving.{Parts, Resolves, empty, single, equal, halves}
+use Rattle.dc_spec.proofs.Options.{some-inj}
 
 -- these words, put into a tree, make it into another
 abbrev pub Takes : Tree → List (List ℕ) → Tree → Type 0
@@ -33,7 +33,8 @@ open-same word (unsplit group low high) = by_count (nat_lt group.count 2)
 open-same word (equal_values leaf) = refl
 open-same word (parts left right) = by_both (put word left) (current left) (put word right) (current right) (open-same word left) (open-same word right)
   where
-    by_both : (a : Option (Result Tree EpochFault)) (b : Option Ranged) (c : Option (Result Tree EpochFault)) (d : Option Ranged) → is_none a ≡ is_none b → is_none c ≡ is_none d → is_none (option_or (option_map (with_left right) a) (option_map (with_right left) c)) ≡ is_none (option_or b d)
+    by_both : (a : Option (Result Tree EpochFault)) (b : Option Ranged) (c : Option (Result Tree EpochFault)) (d : Option Ranged) → is_none a ≡ is_none b → is_none c ≡ is_none d
+        → is_none (option_or (option_map (with_left right) a) (option_map (with_right left) c)) ≡ is_none (option_or b d)
     by_both None None None None e f = refl
     by_both None None (Some c) (Some d) e f = refl
     by_both None None None (Some d) e f = f
@@ -88,11 +89,13 @@ unfolding come_out
 out-parts l r a = rw a
 
 -- what a word with the whole count, and what one with less, makes of a group
-answer-equal : (group part rest : Group) (low high : ℕ) (word : List ℕ) → 2 ≤ group.count → Parts group word part rest → part.count ≡ group.count → uneven_limb group ≡ None → put word (unsplit group low high) ≡ Some (Ok (equal_values (leaf_of group low high)))
+answer-equal : (group part rest : Group) (low high : ℕ) (word : List ℕ) → 2 ≤ group.count → Parts group word part rest → part.count ≡ group.count → uneven_limb group ≡ None
+    → put word (unsplit group low high) ≡ Some (Ok (equal_values (leaf_of group low high)))
 unfolding put split_by
 answer-equal group part rest low high word two is all even = rw (le-ltb group.count 2 two, is.is_part, is.is_rest, eq-eqb part.count group.count all, even)
 
-pub answer-halves : (group part rest : Group) (low high : ℕ) (word : List ℕ) → 2 ≤ group.count → Parts group word part rest → part.count < group.count → put word (unsplit group low high) ≡ Some (Ok (two_parts (mean_of group) low high part rest))
+pub answer-halves : (group part rest : Group) (low high : ℕ) (word : List ℕ) → 2 ≤ group.count → Parts group word part rest → part.count < group.count → put word (unsplit group low high)
+    ≡ Some (Ok (two_parts (mean_of group) low high part rest))
 unfolding put split_by
 answer-halves group part rest low high word two is fewer = rw (le-ltb group.count 2 two, is.is_part, is.is_rest, ne_eqb part.count group.count (λ e. omega arith))
 
@@ -164,7 +167,8 @@ put-parts word l r = refl
 
 -- the first word of several, by the part that takes it
 in-parts-by : (l r after next : Tree) (word : List ℕ) (words : List (List ℕ)) → ((l r : Tree) → Takes (parts l r) words after → InParts l r after words) → Takes next words after
-    → (a b : Option (Result Tree EpochFault)) → put word l ≡ a → put word r ≡ b → option_or (option_map (with_left r) a) (option_map (with_right l) b) ≡ Some (Ok next) → InParts l r after (word ∷ words)
+    → (a b : Option (Result Tree EpochFault)) → put word l ≡ a → put word r ≡ b → option_or (option_map (with_left r) a) (option_map (with_right l) b) ≡ Some (Ok next)
+        → InParts l r after (word ∷ words)
 in-parts-by l r after next word words again rest (Some (Ok l1)) b pl pr e =
     let same : parts l1 r ≡ next = ok-inj (some-inj e) in
     let more = again l1 r (subst (λ t. Takes t words after) (sym same) rest) in
@@ -204,7 +208,8 @@ in-parts : (l r after : Tree) (words : List (List ℕ)) → Takes (parts l r) wo
 in-parts l r after [] is closed =
     let both = parts-closed l r (ap current is ∙ closed) in
     record { first = []; second = []; joined = refl; new_left = l; new_right = r; takes_first = refl; closed_first = both.0; takes_second = refl; closed_second = both.1; is_parts = sym is }
-in-parts l r after (word ∷ words) is closed = in-parts-by l r after is.0 word words (λ a b t. in-parts a b after words t closed) is.2 (put word l) (put word r) refl refl (sym (put-parts word l r) ∙ is.1)
+in-parts l r after (word ∷ words) is closed = in-parts-by l r after is.0 word words (λ a b t. in-parts a b after words t closed) is.2 (put word l) (put word r) refl refl (sym (put-parts word l r)
+    ∙ is.1)
 
 -- what an answer to a group's word is
 pub data Answer (group : Group) (low high : ℕ) (word : List ℕ) (next : Tree) : Type 0 where
@@ -215,11 +220,13 @@ pub answer-of : (group : Group) (low high : ℕ) (word : List ℕ) (next : Tree)
 unfolding split_by
 answer-of group low high word next e = by_part (group_of word) refl e
   where
-    by_even : (part rest : Group) → Parts group word part rest → part.count ≡ group.count → (o : Option ℕ) → uneven_limb group ≡ o → equal_or_fault group low high o ≡ Ok next → Answer group low high word next
+    by_even : (part rest : Group) → Parts group word part rest → part.count ≡ group.count → (o : Option ℕ) → uneven_limb group ≡ o → equal_or_fault group low high o ≡ Ok next
+        → Answer group low high word next
     by_even part rest is same None even r = was_equal is same even (ok-inj r)
     by_even part rest is same (Some i) even r = absurd (err-ok r)
 
-    by_count : (part rest : Group) → Parts group word part rest → (b : Bool) → (part.count == group.count) ≡ b → cond b (equal_or_fault group low high (uneven_limb group)) (Ok (two_parts (mean_of group) low high part rest)) ≡ Ok next → Answer group low high word next
+    by_count : (part rest : Group) → Parts group word part rest → (b : Bool) → (part.count == group.count) ≡ b → cond b (equal_or_fault group low high (uneven_limb group))
+        (Ok (two_parts (mean_of group) low high part rest)) ≡ Ok next → Answer group low high word next
     by_count part rest is true same r = by_even part rest is (eqb-true _ _ same) (uneven_limb group) refl r
     by_count part rest is false other r =
         let most : part.count ≤ group.count = (minus-ok group part rest is.is_rest).most_count in
@@ -245,23 +252,27 @@ unfolding current
 open-large group low high two = rw (le-ltb group.count 2 two)
 
 -- a group that takes no word
-resolves-small : (group : Group) (low high : ℕ) (words : List (List ℕ)) (after : Tree) (out : List Leaf) → Resolves group low high [] out → words ≡ [] → unsplit group low high ≡ after → come_out (unsplit group low high) ≡ out → Resolves group low high words (come_out after)
+resolves-small : (group : Group) (low high : ℕ) (words : List (List ℕ)) (after : Tree) (out : List Leaf) → Resolves group low high [] out → words ≡ [] → unsplit group low high ≡ after
+    → come_out (unsplit group low high) ≡ out → Resolves group low high words (come_out after)
 resolves-small group low high words after out r none same is = subst (λ ws. Resolves group low high ws (come_out after)) (sym none) (subst (Resolves group low high []) (sym is ∙ ap come_out same) r)
 
 -- what two lists of words and of leaves say of the joined ones
-resolves-joined : (group : Group) (low high : ℕ) (word : List ℕ) (words first second : List (List ℕ)) (after l r : Tree) → words ≡ first ++ second → after ≡ parts l r → current l ≡ None → Resolves group low high (word ∷ first ++ second) (come_out l ++ come_out r) → Resolves group low high (word ∷ words) (come_out after)
+resolves-joined : (group : Group) (low high : ℕ) (word : List ℕ) (words first second : List (List ℕ)) (after l r : Tree) → words ≡ first ++ second → after ≡ parts l r → current l ≡ None
+    → Resolves group low high (word ∷ first ++ second) (come_out l ++ come_out r) → Resolves group low high (word ∷ words) (come_out after)
 resolves-joined group low high word words first second after l r joined is closed res =
     subst (λ ws. Resolves group low high (word ∷ ws) (come_out after)) (sym joined) (subst (Resolves group low high (word ∷ first ++ second)) (sym (ap come_out is ∙ out-parts l r closed)) res)
 
 -- a value that all sent again
-resolves-equal : (group part rest : Group) (low high : ℕ) (word : List ℕ) (words : List (List ℕ)) (after : Tree) → 2 ≤ group.count → Parts group word part rest → part.count ≡ group.count → uneven_limb group ≡ None → Takes (equal_values (leaf_of group low high)) words after → Resolves group low high (word ∷ words) (come_out after)
+resolves-equal : (group part rest : Group) (low high : ℕ) (word : List ℕ) (words : List (List ℕ)) (after : Tree) → 2 ≤ group.count → Parts group word part rest → part.count ≡ group.count
+    → uneven_limb group ≡ None → Takes (equal_values (leaf_of group low high)) words after → Resolves group low high (word ∷ words) (come_out after)
 unfolding current come_out
 resolves-equal group part rest low high word words after two is same even takes =
     let none = closed-none (equal_values (leaf_of group low high)) after words refl takes in
     subst (λ ws. Resolves group low high (word ∷ ws) (come_out after)) (sym none.0) (subst (Resolves group low high (word ∷ [])) (ap come_out none.1) (equal two is same even))
 
 -- the same of a group of count 2 or more, after its own word
-closes-split : (fuel : ℕ) (group : Group) (low high : ℕ) (word : List ℕ) (words : List (List ℕ)) (next after : Tree) → 2 ≤ group.count → length words < fuel → Takes next words after → current after ≡ None
+closes-split : (fuel : ℕ) (group : Group) (low high : ℕ) (word : List ℕ) (words : List (List ℕ)) (next after : Tree) → 2 ≤ group.count → length words < fuel → Takes next words after → current after
+    ≡ None
     → ((g : Group) (a b : ℕ) (ws : List (List ℕ)) (t : Tree) → length ws < fuel → Takes (unsplit g a b) ws t → current t ≡ None → Resolves g a b ws (come_out t))
     → Answer group low high word next → Resolves group low high (word ∷ words) (come_out after)
 closes-split fuel group low high word words next after two few takes closed again (was_equal {part = x} {rest = r} is same even e) =
@@ -270,10 +281,12 @@ closes-split fuel group low high word words next after two few takes closed agai
     let both = in-parts (unsplit x low (min high (mean_of group))) (unsplit r (max low (mean_of group + 1)) high) after words (subst (λ t. Takes t words after) (sym e) takes) closed in
     let sizes : length words ≡ length both.first + length both.second = ap length both.joined ∙ length-append both.first both.second in
     resolves-joined group low high word words both.first both.second after both.new_left both.new_right both.joined both.is_parts both.closed_first
-    (halves two is fewer (again x low (min high (mean_of group)) both.first both.new_left (omega arith) both.takes_first both.closed_first) (again r (max low (mean_of group + 1)) high both.second both.new_right (omega arith) both.takes_second both.closed_second))
+    (halves two is fewer (again x low (min high (mean_of group)) both.first both.new_left (omega arith) both.takes_first both.closed_first)
+        (again r (max low (mean_of group + 1)) high both.second both.new_right (omega arith) both.takes_second both.closed_second))
 
 -- the same with the group's count in hand
-closes-by : (fuel : ℕ) (group : Group) (low high : ℕ) (words : List (List ℕ)) (after : Tree) (count : ℕ) → group.count ≡ count → length words < fuel + 1 → Takes (unsplit group low high) words after → current after ≡ None
+closes-by : (fuel : ℕ) (group : Group) (low high : ℕ) (words : List (List ℕ)) (after : Tree) (count : ℕ) → group.count ≡ count → length words < fuel + 1 → Takes (unsplit group low high) words after
+    → current after ≡ None
     → ((g : Group) (a b : ℕ) (ws : List (List ℕ)) (t : Tree) → length ws < fuel → Takes (unsplit g a b) ws t → current t ≡ None → Resolves g a b ws (come_out t))
     → Resolves group low high words (come_out after)
 closes-by fuel group low high words after zero e few is closed again =
@@ -289,6 +302,7 @@ closes-by fuel group low high (word ∷ words) after (suc (suc count)) e few is 
     (answer-of group low high word is.0 (some-inj (sym (put-answer group low high word (omega arith)) ∙ is.1)))
 
 -- words that close a group resolve it, into the leaves that then came out
-pub closes-resolves : (fuel : ℕ) (group : Group) (low high : ℕ) (words : List (List ℕ)) (after : Tree) → length words < fuel → Takes (unsplit group low high) words after → current after ≡ None → Resolves group low high words (come_out after)
+pub closes-resolves : (fuel : ℕ) (group : Group) (low high : ℕ) (words : List (List ℕ)) (after : Tree) → length words < fuel → Takes (unsplit group low high) words after → current after ≡ None
+    → Resolves group low high words (come_out after)
 closes-resolves zero group low high words after few is closed = absurd (omega arith)
 closes-resolves (suc fuel) group low high words after few is closed = closes-by fuel group low high words after group.count refl (omega arith) is closed (closes-resolves fuel)

@@ -49,7 +49,8 @@ words_for-none (b ∷ bursts) field rest low is =
     rw (ne_eqb b.0 field (λ e. omega arith)) (words_for-none bursts field rest (b.0 + 1) is.1)
 
 -- and the words of its burst, once that has ended
-pub words_for-push : (bursts : List (ℕ × List (List ℕ))) (field : ℕ) (words : List (List ℕ)) (rest : List ℕ) (low : ℕ) → Rises low (burst_fields bursts ++ field ∷ rest) → words_for field (bursts ++ (field, words) ∷ []) ≡ words
+pub words_for-push : (bursts : List (ℕ × List (List ℕ))) (field : ℕ) (words : List (List ℕ)) (rest : List ℕ) (low : ℕ) → Rises low (burst_fields bursts ++ field ∷ rest)
+    → words_for field (bursts ++ (field, words) ∷ []) ≡ words
 unfolding Rises
 words_for-push [] field words rest low is = rw (eq-eqb field field refl) refl
 words_for-push (b ∷ bursts) field words rest low is =
@@ -61,6 +62,7 @@ pub words_for-other : (bursts : List (ℕ × List (List ℕ))) (mark field : ℕ
 words_for-other [] mark field words other = rw other refl
 words_for-other (b ∷ bursts) mark field words other = by_test (b.0 == mark) (words_for-other bursts mark field words other)
   where
-    by_test : (test : Bool) → words_for mark (bursts ++ (field, words) ∷ []) ≡ words_for mark bursts → cond test b.1 (words_for mark (bursts ++ (field, words) ∷ [])) ≡ cond test b.1 (words_for mark bursts)
+    by_test : (test : Bool) → words_for mark (bursts ++ (field, words) ∷ []) ≡ words_for mark bursts → cond test b.1 (words_for mark (bursts ++ (field, words) ∷ []))
+        ≡ cond test b.1 (words_for mark bursts)
     by_test true e = refl
     by_test false e = e

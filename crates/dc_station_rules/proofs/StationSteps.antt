@@ -10,7 +10,7 @@ use Rattle.dc_station_rules.specs.Bursts.{burst_of, burst_faults, has_ended, mes
 use Rattle.dc_station_rules.specs.Epochs.{Leaf, epoch_of, leaves_at, is_over}
 use Rattle.dc_station_rules.specs.Cycles.{Cycle, granted, opened, fields_left, cycles, with_epoch, continued, next_history, with_next, history_of, epoch_words, words_for}
 use Rattle.dc_station_rules.specs.Stations.{burst_entries, cycle_leaves, leaf_entry, cycle_log, log_of, marked, gave_message, first_long, longs_sent, is_leaf_of, first_short, shorts_sent, left_by, left_after, sent_over, sent_of}
-use Rattle.dc_station_rules.specs.Grammar.{burst_fields, is_all_of_next, IsBegunCycle}
+use Rattle.dc_station_rules.specs.Grammar.{burst_fields, IsBegunCycle}
 use Rattle.dc_station_rules.proofs.OneWay.{left_over, fewer_left, cycles_in_one_way}
 use Rattle.dc_station_rules.proofs.Pushes.{history_of-push}
 use Rattle.dc_station_rules.proofs.MoreLeaves.{leaves-push}
@@ -52,12 +52,14 @@ granted-parts words cycle begun =
     ap (λ left. burst_fields cycle.bursts ++ left) (left_over cycle.bursts (granted cycle.reservation) parts.left parts.fields) ∙ parts.fields
 
 -- so the field of its next burst is none of theirs
-next-rises : (words : List (List ℕ)) (cycle : Cycle) (field : ℕ) (fields : List ℕ) → (history_of words).begun ≡ Some cycle → fields_left cycle ≡ field ∷ fields → Rises 0 (burst_fields cycle.bursts ++ field ∷ fields)
+next-rises : (words : List (List ℕ)) (cycle : Cycle) (field : ℕ) (fields : List ℕ) → (history_of words).begun ≡ Some cycle → fields_left cycle ≡ field ∷ fields → Rises 0 (burst_fields cycle.bursts
+    ++ field ∷ fields)
 next-rises words cycle field fields begun left =
     subst (Rises 0) (sym (granted-parts words cycle begun) ∙ ap (λ fs. burst_fields cycle.bursts ++ fs) left) (granted-rise cycle.reservation)
 
 -- the history after one more word of a begun cycle
-next-history : (words : List (List ℕ)) (word : List ℕ) (cycle : Cycle) (fields : List ℕ) → (history_of words).begun ≡ Some cycle → fields_left cycle ≡ fields → history_of (words ++ word ∷ []) ≡ continued (history_of words).whole cycle fields word
+next-history : (words : List (List ℕ)) (word : List ℕ) (cycle : Cycle) (fields : List ℕ) → (history_of words).begun ≡ Some cycle → fields_left cycle ≡ fields → history_of (words ++ word ∷ [])
+    ≡ continued (history_of words).whole cycle fields word
 unfolding with_next
 next-history words word cycle fields begun left =
     history_of-push words word
@@ -91,15 +93,18 @@ pub record Reserves (stream : Stream) (words : List (List ℕ)) (word : List ℕ
 pub reserves : (stream : Stream) (words : List (List ℕ)) (word : List ℕ) → (history_of words).begun ≡ None → Reserves stream words word
 unfolding with_next
 reserves stream words word none =
-    let next : history_of (words ++ word ∷ []) ≡ record { whole = (history_of words).whole; begun = Some (opened word) } = history_of-push words word ∙ ap (λ b. next_history (history_of words).whole b word) none in
+    let next : history_of (words ++ word ∷ []) ≡ record { whole = (history_of words).whole; begun = Some (opened word) } = history_of-push words word
+        ∙ ap (λ b. next_history (history_of words).whole b word) none in
     let same : cycles (history_of words) ≡ (history_of words).whole = ap (λ b. (history_of words).whole ++ option_to_list b) none ∙ append-nil _ in
     let is = begun-cycles (words ++ word ∷ []) (history_of words).whole (opened word) next in
     let no_words : epoch_words (opened word) ≡ [] = no-words (fields_left (opened word)) in
     record {
       history = next;
-      log = log-last (words ++ word ∷ []) (history_of words).whole (opened word) is ∙ ap (λ es. flat_map cycle_log (history_of words).whole ++ es) (messages-log (opened word) no_words) ∙ append-nil _ ∙ sym (log-whole words same);
+      log = log-last (words ++ word ∷ []) (history_of words).whole (opened word) is ∙ ap (λ es. flat_map cycle_log (history_of words).whole ++ es) (messages-log (opened word) no_words) ∙ append-nil _
+          ∙ sym (log-whole words same);
       sent = sent-last stream (words ++ word ∷ []) (history_of words).whole (opened word) is
-          ∙ ap₂ (λ longs shorts. sent_over stream (history_of words).whole ++ (map long longs ++ map (λ value. short value 1) shorts)) (no-longs (at_cycle stream words) (opened word) refl) (no-shorts (at_cycle stream words) (opened word) no_words)
+          ∙ ap₂ (λ longs shorts. sent_over stream (history_of words).whole ++ (map long longs ++ map (λ value. short value 1) shorts)) (no-longs (at_cycle stream words) (opened word) refl)
+              (no-shorts (at_cycle stream words) (opened word) no_words)
           ∙ append-nil _
           ∙ sym (sent-whole stream words same);
       no_long = no-longs (at_cycle stream words) (opened word) refl;
@@ -114,7 +119,8 @@ pub record BurstGoesOn (stream : Stream) (words : List (List ℕ)) (word : List 
   pub same_long : longs_sent (at_cycle stream words) (since_then cycle (cycle.since ++ word ∷ [])) ≡ longs_sent (at_cycle stream words) cycle
   pub no_short : shorts_sent (at_cycle stream words) (since_then cycle (cycle.since ++ word ∷ [])) ≡ []
 
-pub burst_goes_on : (stream : Stream) (words : List (List ℕ)) (word : List ℕ) (cycle : Cycle) (field : ℕ) (fields : List ℕ) → (history_of words).begun ≡ Some cycle → fields_left cycle ≡ field ∷ fields → has_ended (burst_of (cycle.since ++ word ∷ [])) ≡ false → BurstGoesOn stream words word cycle
+pub burst_goes_on : (stream : Stream) (words : List (List ℕ)) (word : List ℕ) (cycle : Cycle) (field : ℕ) (fields : List ℕ) → (history_of words).begun ≡ Some cycle → fields_left cycle ≡ field
+    ∷ fields → has_ended (burst_of (cycle.since ++ word ∷ [])) ≡ false → BurstGoesOn stream words word cycle
 burst_goes_on stream words word cycle field fields begun left going =
     let whole : List Cycle = (history_of words).whole in
     let after : List (List ℕ) = cycle.since ++ word ∷ [] in
@@ -127,9 +133,11 @@ burst_goes_on stream words word cycle field fields begun left going =
     let longs = sym (same-longs (at_cycle stream words) cycle (since_then cycle after) refl) in
     record {
       history = next;
-      log = log-more words (words ++ word ∷ []) whole cycle (since_then cycle after) [] was is (messages-log (since_then cycle after) still ∙ sym (messages-log cycle none) ∙ sym (append-nil _)) ∙ append-nil _;
+      log = log-more words (words ++ word ∷ []) whole cycle (since_then cycle after) [] was is (messages-log (since_then cycle after) still ∙ sym (messages-log cycle none) ∙ sym (append-nil _))
+          ∙ append-nil _;
       sent = sent-more stream words (words ++ word ∷ []) whole cycle (since_then cycle after) [] was is
-          (sent-long (at_cycle stream words) cycle (since_then cycle after) [] (no-shorts (at_cycle stream words) cycle none) (no-shorts (at_cycle stream words) (since_then cycle after) still) (longs ∙ sym (append-nil _))) ∙ append-nil _;
+          (sent-long (at_cycle stream words) cycle (since_then cycle after) [] (no-shorts (at_cycle stream words) cycle none) (no-shorts (at_cycle stream words) (since_then cycle after) still) (longs
+              ∙ sym (append-nil _))) ∙ append-nil _;
       same_long = longs;
       no_short = no-shorts (at_cycle stream words) (since_then cycle after) still;
     }
@@ -162,11 +170,14 @@ pub record BurstEnds (stream : Stream) (words : List (List ℕ)) (word : List �
   pub history : history_of (words ++ word ∷ []) ≡ record { whole = (history_of words).whole; begun = Some (with_ended cycle field (cycle.since ++ word ∷ [])) }
   pub left : fields_left (with_ended cycle field (cycle.since ++ word ∷ [])) ≡ fields
   pub log : log_of (words ++ word ∷ []) ≡ log_of words ++ map long (option_to_list (message_of (burst_of (cycle.since ++ word ∷ []))))
-  pub sent : sent_of stream (words ++ word ∷ []) ≡ sent_of stream words ++ map long (sent_by (at_cycle stream words).longs (marked (at_cycle stream words)) field (message_of (burst_of (cycle.since ++ word ∷ []))))
-  pub longs : longs_sent (at_cycle stream words) (with_ended cycle field (cycle.since ++ word ∷ [])) ≡ longs_sent (at_cycle stream words) cycle ++ sent_by (at_cycle stream words).longs (marked (at_cycle stream words)) field (message_of (burst_of (cycle.since ++ word ∷ [])))
+  pub sent : sent_of stream (words ++ word ∷ []) ≡ sent_of stream words ++ map long (sent_by (at_cycle stream words).longs (marked (at_cycle stream words)) field
+      (message_of (burst_of (cycle.since ++ word ∷ []))))
+  pub longs : longs_sent (at_cycle stream words) (with_ended cycle field (cycle.since ++ word ∷ [])) ≡ longs_sent (at_cycle stream words) cycle ++ sent_by (at_cycle stream words).longs
+      (marked (at_cycle stream words)) field (message_of (burst_of (cycle.since ++ word ∷ [])))
   pub no_short : shorts_sent (at_cycle stream words) (with_ended cycle field (cycle.since ++ word ∷ [])) ≡ []
 
-pub burst_ends : (stream : Stream) (words : List (List ℕ)) (word : List ℕ) (cycle : Cycle) (field : ℕ) (fields : List ℕ) → (history_of words).begun ≡ Some cycle → fields_left cycle ≡ field ∷ fields → has_ended (burst_of (cycle.since ++ word ∷ [])) ≡ true → BurstEnds stream words word cycle field fields
+pub burst_ends : (stream : Stream) (words : List (List ℕ)) (word : List ℕ) (cycle : Cycle) (field : ℕ) (fields : List ℕ) → (history_of words).begun ≡ Some cycle → fields_left cycle ≡ field ∷ fields
+    → has_ended (burst_of (cycle.since ++ word ∷ [])) ≡ true → BurstEnds stream words word cycle field fields
 unfolding longs_sent
 burst_ends stream words word cycle field fields begun left ended =
     let whole : List Cycle = (history_of words).whole in
@@ -183,9 +194,11 @@ burst_ends stream words word cycle field fields begun left ended =
       history = next;
       left = fewer_left cycle.bursts (field, after) (granted cycle.reservation) fields left;
       log = log-more words (words ++ word ∷ []) whole cycle (with_ended cycle field after) (map long (option_to_list got)) was is
-          (messages-log (with_ended cycle field after) still ∙ flat_map-append burst_entries cycle.bursts ((field, after) ∷ []) ∙ ap₂ (λ es more. es ++ more) (sym (messages-log cycle none)) (append-nil _ ∙ message-entries got));
+          (messages-log (with_ended cycle field after) still ∙ flat_map-append burst_entries cycle.bursts ((field, after) ∷ []) ∙ ap₂ (λ es more. es ++ more) (sym (messages-log cycle none))
+              (append-nil _ ∙ message-entries got));
       sent = sent-more stream words (words ++ word ∷ []) whole cycle (with_ended cycle field after) _ was is
-          (sent-long (at_cycle stream words) cycle (with_ended cycle field after) _ (no-shorts (at_cycle stream words) cycle none) (no-shorts (at_cycle stream words) (with_ended cycle field after) still) longs);
+          (sent-long (at_cycle stream words) cycle (with_ended cycle field after) _ (no-shorts (at_cycle stream words) cycle none) (no-shorts (at_cycle stream words)
+              (with_ended cycle field after) still) longs);
       longs = longs;
       no_short = no-shorts (at_cycle stream words) (with_ended cycle field after) still;
     }
@@ -204,7 +217,8 @@ first_short-append (value ∷ shorts) out more =
 epoch-cycles : (whole : List Cycle) (cycle : Cycle) (words : List (List ℕ)) → cycles (with_epoch whole cycle words) ≡ whole ++ since_then cycle words ∷ []
 epoch-cycles whole cycle words = by_end (is_over (epoch_of words))
   where
-    by_end : (b : Bool) → cycles (cond b (record { whole = whole ++ since_then cycle words ∷ []; begun = None }) (record { whole = whole; begun = Some (since_then cycle words) })) ≡ whole ++ since_then cycle words ∷ []
+    by_end : (b : Bool) → cycles (cond b (record { whole = whole ++ since_then cycle words ∷ []; begun = None }) (record { whole = whole; begun = Some (since_then cycle words) })) ≡ whole
+        ++ since_then cycle words ∷ []
     by_end true = append-nil _
     by_end false = refl
 
@@ -212,9 +226,11 @@ epoch-cycles whole cycle words = by_end (is_over (epoch_of words))
 pub record EpochTakes (stream : Stream) (words : List (List ℕ)) (word : List ℕ) (cycle : Cycle) : Type 0 where
   pub history : history_of (words ++ word ∷ []) ≡ with_epoch (history_of words).whole cycle (cycle.since ++ word ∷ [])
   pub log : log_of (words ++ word ∷ []) ≡ log_of words ++ map leaf_entry (leaves_at cycle.since word)
-  pub sent : sent_of stream (words ++ word ∷ []) ≡ sent_of stream words ++ map (λ value. short value 1) (unless_sent (shorts_sent (at_cycle stream words) cycle) (first_short (at_cycle stream words).shorts (leaves_at cycle.since word)))
+  pub sent : sent_of stream (words ++ word ∷ []) ≡ sent_of stream words ++ map (λ value. short value 1) (unless_sent (shorts_sent (at_cycle stream words) cycle)
+      (first_short (at_cycle stream words).shorts (leaves_at cycle.since word)))
   pub same_long : longs_sent (at_cycle stream words) (since_then cycle (cycle.since ++ word ∷ [])) ≡ longs_sent (at_cycle stream words) cycle
-  pub shorts : shorts_sent (at_cycle stream words) (since_then cycle (cycle.since ++ word ∷ [])) ≡ shorts_sent (at_cycle stream words) cycle ++ unless_sent (shorts_sent (at_cycle stream words) cycle) (first_short (at_cycle stream words).shorts (leaves_at cycle.since word))
+  pub shorts : shorts_sent (at_cycle stream words) (since_then cycle (cycle.since ++ word ∷ [])) ≡ shorts_sent (at_cycle stream words) cycle ++ unless_sent (shorts_sent (at_cycle stream words) cycle)
+      (first_short (at_cycle stream words).shorts (leaves_at cycle.since word))
 
 pub epoch_takes : (stream : Stream) (words : List (List ℕ)) (word : List ℕ) (cycle : Cycle) → (history_of words).begun ≡ Some cycle → fields_left cycle ≡ [] → EpochTakes stream words word cycle
 unfolding cycle_log shorts_sent
@@ -244,18 +260,6 @@ epoch_takes stream words word cycle begun left =
 pub left_after-push : (stream : Stream) (cycles : List Cycle) (cycle : Cycle) → left_after stream (cycles ++ cycle ∷ []) ≡ left_by (left_after stream cycles) cycle
 left_after-push stream [] cycle = refl
 left_after-push stream (c ∷ cycles) cycle = left_after-push (left_by stream c) cycles cycle
-
--- a begun cycle has a burst that has not ended, or no fields left and an epoch that is not over
-pub record IsUnderWay (cycle : Cycle) : Type 0 where
-  pub burst : (field : ℕ) (fields : List ℕ) → fields_left cycle ≡ field ∷ fields → has_ended (burst_of cycle.since) ≡ false
-  pub epoch : fields_left cycle ≡ [] → is_over (epoch_of cycle.since) ≡ false
-
-pub is_under_way : (words : List (List ℕ)) (cycle : Cycle) → (history_of words).begun ≡ Some cycle → IsUnderWay cycle
-is_under_way words cycle begun =
-    let parts = begun-parts words cycle begun in
-    let left : fields_left cycle ≡ parts.left = left_over cycle.bursts (granted cycle.reservation) parts.left parts.fields in
-    let not_ended : is_all_of_next (fields_left cycle) cycle.since ≡ false = ap (λ fs. is_all_of_next fs cycle.since) left ∙ parts.since cycle.since [] (sym (append-nil cycle.since)) in
-    record { burst = λ field fields e. ap (λ fs. is_all_of_next fs cycle.since) (sym e) ∙ not_ended; epoch = λ e. ap (λ fs. is_all_of_next fs cycle.since) (sym e) ∙ not_ended }
 
 -- after so many words a log has at most as many entries, and at most fifteen bytes a word
 pub logs_fit : (words : List (List ℕ)) → (length (log_of words) ≤ length words) × (bytes_in (log_of words) ≤ 15 * length words)

@@ -16,9 +16,9 @@ use Rattle.dc_station_rules.specs.Grammar.{is_epoch, IsEpoch}
 use Rattle.dc_station_rules.specs.Resolving.{empty, IsWholeEpoch, Breaks, BreaksOff, IsVoidEpoch, IsWholeOrVoid}
 use Rattle.dc_spec.proofs.GroupLemmas.{err-ok, group_of-ok}
 use Rattle.dc_station_rules.proofs.Putting.{Takes, takes-append, takes-words, open-same, none-is, put-open, put-closed, resolves-closes, closes-resolves}
-use Rattle.dc_spec.proofs.Options.{some-inj}
 use Rattle.dc_station_rules.proofs.Completing.{Closing, close-tree, alone-AreGroups, takes-AreGroups}
 use Rattle.dc_station_rules.proofs.OneWay.{split_before, nothing_yet}
+use Rattle.dc_spec.proofs.Options.{some-inj}
 
 -- the faults of two equal errors
 err-same : {A B : Type 0} {x y : B} → Path (Result A B) (Err x) (Err y) → x ≡ y
@@ -90,7 +90,8 @@ pub put-breaks : (word : List ℕ) (fault : EpochFault) (t : Tree) (place : Rang
 unfolding put current
 put-breaks word fault (unsplit group low high) place is broken = by_count (nat_lt group.count 2) is
   where
-    by_count : (b : Bool) → Path (Option Ranged) (cond b None (Some (record { group = group; low = low; high = high }))) (Some place) → Path (Option (Result Tree EpochFault)) (cond b None (Some (split_by group low high word))) (Some (Err fault))
+    by_count : (b : Bool) → Path (Option Ranged) (cond b None (Some (record { group = group; low = low; high = high }))) (Some place) → Path (Option (Result Tree EpochFault))
+        (cond b None (Some (split_by group low high word))) (Some (Err fault))
     by_count true h = absurd (none-some _ h)
     by_count false h = ap (λ (p : Ranged). Some (split_by p.group p.low p.high word)) (some-inj h) ∙ ap Some broken
 put-breaks word fault (equal_values leaf) place is broken = absurd (none-some _ is)
@@ -104,17 +105,21 @@ put-breaks word fault (parts left right) place is broken = by_parts (current lef
     by_parts None cl h first second = rw (put-closed word left cl, second h broken) refl
 
 -- and where an error is put, the current group's answer breaks a check
-breaks-put : (word : List ℕ) (fault : EpochFault) (t : Tree) → put word t ≡ Some (Err fault) → (place : Ranged) × (current t ≡ Some place) × (split_by place.group place.low place.high word ≡ Err fault)
+breaks-put : (word : List ℕ) (fault : EpochFault) (t : Tree) → put word t ≡ Some (Err fault) → (place : Ranged) × (current t ≡ Some place) × (split_by place.group place.low place.high word
+    ≡ Err fault)
 unfolding put current
 breaks-put word fault (unsplit group low high) e = by_count (nat_lt group.count 2) refl e
   where
-    by_count : (b : Bool) → nat_lt group.count 2 ≡ b → Path (Option (Result Tree EpochFault)) (cond b None (Some (split_by group low high word))) (Some (Err fault)) → (place : Ranged) × (Path (Option Ranged) (cond (nat_lt group.count 2) None (Some (record { group = group; low = low; high = high }))) (Some place)) × (split_by place.group place.low place.high word ≡ Err fault)
+    by_count : (b : Bool) → nat_lt group.count 2 ≡ b → Path (Option (Result Tree EpochFault)) (cond b None (Some (split_by group low high word))) (Some (Err fault)) → (place : Ranged)
+        × (Path (Option Ranged) (cond (nat_lt group.count 2) None (Some (record { group = group; low = low; high = high }))) (Some place)) × (split_by place.group place.low place.high word
+        ≡ Err fault)
     by_count true c h = absurd (none-some _ h)
     by_count false c h = (record { group = group; low = low; high = high }, rw c refl, some-inj h)
 breaks-put word fault (equal_values leaf) e = absurd (none-some _ e)
 breaks-put word fault (parts left right) e = by_parts (put word left) (put word right) refl refl e (breaks-put word fault left) (breaks-put word fault right)
   where
-    by_parts : (a b : Option (Result Tree EpochFault)) → put word left ≡ a → put word right ≡ b → Path (Option (Result Tree EpochFault)) (option_or (option_map (with_left right) a) (option_map (with_right left) b)) (Some (Err fault))
+    by_parts : (a b : Option (Result Tree EpochFault)) → put word left ≡ a → put word right ≡ b → Path (Option (Result Tree EpochFault)) (option_or (option_map (with_left right) a)
+        (option_map (with_right left) b)) (Some (Err fault))
         → (put word left ≡ Some (Err fault) → (place : Ranged) × (current left ≡ Some place) × (split_by place.group place.low place.high word ≡ Err fault))
         → (put word right ≡ Some (Err fault) → (place : Ranged) × (current right ≡ Some place) × (split_by place.group place.low place.high word ≡ Err fault))
         → (place : Ranged) × (Path (Option Ranged) (option_or (current left) (current right)) (Some place)) × (split_by place.group place.low place.high word ≡ Err fault)
@@ -129,7 +134,8 @@ breaks-put word fault (parts left right) e = by_parts (put word left) (put word 
     by_parts None None pl pr h first second = absurd (none-some _ h)
 
 -- a word that breaks a check, after words that a tree took
-void-after : (root : List ℕ) (group : Group) (front : List (List ℕ)) (t : Tree) (word : List ℕ) (rest : List (List ℕ)) (fault : EpochFault) → group_of root ≡ Ok group → Takes (unsplit group 0 last_number) front t → put word t ≡ Some (Err fault)
+void-after : (root : List ℕ) (group : Group) (front : List (List ℕ)) (t : Tree) (word : List ℕ) (rest : List (List ℕ)) (fault : EpochFault) → group_of root ≡ Ok group
+    → Takes (unsplit group 0 last_number) front t → put word t ≡ Some (Err fault)
     → epoch_of (root ∷ front ++ word ∷ rest) ≡ void_epoch (come_out t) fault
 unfolding epoch_of
 void-after root group front t word rest fault is takes broken =
@@ -149,7 +155,8 @@ void-before before word next more others whole front w rest e = by_gap (split_be
   where
     by_gap : (gap : List (List ℕ)) × (before ≡ front ++ gap) → is_epoch front ≡ false
     by_gap ([], same) = not-over front next more others (subst (λ ws. IsWholeEpoch (ws ++ next ∷ more) others) (same ∙ append-nil front) whole)
-    by_gap (g ∷ gap, same) = not-over front g (gap ++ next ∷ more) others (subst (λ ws. IsWholeEpoch ws others) (append_assoc front (g ∷ gap) (next ∷ more)) (subst (λ ws. IsWholeEpoch (ws ++ next ∷ more) others) same whole))
+    by_gap (g ∷ gap, same) = not-over front g (gap ++ next ∷ more) others (subst (λ ws. IsWholeEpoch ws others) (append_assoc front (g ∷ gap) (next ∷ more))
+        (subst (λ ws. IsWholeEpoch (ws ++ next ∷ more) others) same whole))
 
 -- what a void epoch is, where nothing stands before the breaking word, and where something does
 void-root : (word : List ℕ) (fault : EpochFault) → Breaks unbegun word fault → epoch_of (word ∷ []) ≡ void_epoch [] fault
@@ -178,7 +185,8 @@ void-is (b ∷ before) word next more others fault whole broken = void-later b b
 -- a void epoch ends with its last word
 void-ends : (words : List (List ℕ)) (out : List Leaf) (fault : EpochFault) → BreaksOff words out fault → IsEpoch words × (epoch_of words ≡ void_epoch out fault)
 void-ends words out fault void =
-    let same : epoch_of words ≡ void_epoch (leaves (epoch_of void.before)) fault = ap epoch_of void.is ∙ void-is void.before void.word void.next void.more void.others fault void.is_part void.breaks in (
+    let same : epoch_of words ≡ void_epoch (leaves (epoch_of void.before)) fault = ap epoch_of void.is
+        ∙ void-is void.before void.word void.next void.more void.others fault void.is_part void.breaks in (
       record { ended = ap is_over same; before = λ front w rest e. void-before void.before void.word void.next void.more void.others void.is_part front w rest (sym void.is ∙ e) },
       same ∙ ap (λ ls. void_epoch ls fault) (sym void.had_come_out),
     )
@@ -186,7 +194,8 @@ void-ends words out fault void =
 -- what comes of words that are put into a tree: it takes them all; or it takes some, and then one breaks a check, or nothing is open
 data Outcome (t : Tree) (words : List (List ℕ)) : Type 0 where
   took : (u : Tree) → Takes t words u → Outcome t words
-  broke : (u : Tree) (front : List (List ℕ)) (word : List ℕ) (rest : List (List ℕ)) (fault : EpochFault) → words ≡ front ++ word ∷ rest → Takes t front u → put word u ≡ Some (Err fault) → Outcome t words
+  broke : (u : Tree) (front : List (List ℕ)) (word : List ℕ) (rest : List (List ℕ)) (fault : EpochFault) → words ≡ front ++ word ∷ rest → Takes t front u → put word u ≡ Some (Err fault)
+      → Outcome t words
   closed_early : (u : Tree) (front : List (List ℕ)) (word : List ℕ) (rest : List (List ℕ)) → words ≡ front ++ word ∷ rest → Takes t front u → put word u ≡ None → Outcome t words
 
 -- one more word in front
@@ -236,9 +245,11 @@ root-void root why is = record {
 }
 
 -- a word that breaks a check after words that a tree took: what stands before is a proper prefix of a whole epoch
-later-void : (root : List ℕ) (group : Group) (front : List (List ℕ)) (u : Tree) (word : List ℕ) (fault : EpochFault) → group_of root ≡ Ok group → Takes (unsplit group 0 last_number) front u → put word u ≡ Some (Err fault)
+later-void : (root : List ℕ) (group : Group) (front : List (List ℕ)) (u : Tree) (word : List ℕ) (fault : EpochFault) → group_of root ≡ Ok group → Takes (unsplit group 0 last_number) front u
+    → put word u ≡ Some (Err fault)
     → IsVoidEpoch (root ∷ front ++ word ∷ []) (leaves (epoch_of (root ∷ front))) fault
-later-void root group front u word fault is takes broken = by_closing (close-tree u (takes-AreGroups (unsplit group 0 last_number) u front (alone-AreGroups group 0 last_number (group_of-ok root group is).1) takes)) refl
+later-void root group front u word fault is takes broken = by_closing (close-tree u (takes-AreGroups (unsplit group 0 last_number) u front (alone-AreGroups group 0 last_number
+    (group_of-ok root group is).1) takes)) refl
   where
     there : epoch_of (root ∷ front) ≡ resolving u
     there = after-root root group front u is takes
@@ -261,7 +272,8 @@ later-void root group front u word fault is takes broken = by_closing (close-tre
             rest = front ++ next ∷ more;
             begins = refl;
             is_group = is;
-            resolves = closes-resolves (suc (length (front ++ next ∷ more))) group 0 last_number (front ++ next ∷ more) c.after (lt-suc_self _) (takes-append (unsplit group 0 last_number) u c.after front (next ∷ more) takes all) c.closed;
+            resolves = closes-resolves (suc (length (front ++ next ∷ more))) group 0 last_number (front ++ next ∷ more) c.after (lt-suc_self _)
+                (takes-append (unsplit group 0 last_number) u c.after front (next ∷ more) takes all) c.closed;
           };
           breaks = subst (λ e. Breaks e word fault) (sym there) (breaks-put word fault u broken);
           had_come_out = refl;
@@ -272,13 +284,15 @@ one-by : (root : List ℕ) (words : List (List ℕ)) (group : Group) → group_o
 unfolding OneOf
 one-by root words group is ended (took u takes) =
     let closed : current u ≡ None = none-is (current u) (sym (ap is_over (after-root root group words u is takes)) ∙ ended.ended) in
-    inl (come_out u, record { root = root; group = group; rest = words; begins = refl; is_group = is; resolves = closes-resolves (suc (length words)) group 0 last_number words u (lt-suc_self _) takes closed })
+    inl (come_out u, record { root = root; group = group; rest = words; begins = refl; is_group = is; resolves = closes-resolves (suc (length words)) group 0 last_number words u
+        (lt-suc_self _) takes closed })
 one-by root words group is ended (closed_early u front word rest same takes none) =
     absurd (true≢false (sym (ap is_none none) ∙ open-same word u ∙ sym (ap is_over (after-root root group front u is takes)) ∙ ended.before (root ∷ front) word rest (ap (λ ws. root ∷ ws) same)))
 one-by root words group is ended (broke u front word [] fault same takes broken) =
     inr (leaves (epoch_of (root ∷ front)), fault, subst (λ ws. IsVoidEpoch (root ∷ ws) (leaves (epoch_of (root ∷ front))) fault) (sym same) (later-void root group front u word fault is takes broken))
 one-by root words group is ended (broke u front word (r ∷ rest) fault same takes broken) =
-    absurd (true≢false (sym (ap is_over (void-after root group front u word [] fault is takes broken)) ∙ ended.before (root ∷ front ++ word ∷ []) r rest (ap (λ ws. root ∷ ws) (same ∙ sym (append_assoc front (word ∷ []) (r ∷ rest))))))
+    absurd (true≢false (sym (ap is_over (void-after root group front u word [] fault is takes broken)) ∙ ended.before (root ∷ front ++ word ∷ []) r rest (ap (λ ws. root ∷ ws) (same
+        ∙ sym (append_assoc front (word ∷ []) (r ∷ rest))))))
 
 -- an ended epoch is whole or void
 one-of : (words : List (List ℕ)) → IsEpoch words → OneOf words

@@ -1,5 +1,5 @@
--- Cycles: a session is cycles one after the other. A cycle is a reservation word, then a burst for each field that it grants,
--- in rising order, then an epoch.
+-- Cycles: a session is cycles one after the other. A cycle is a reservation word, then a burst for
+-- each field that it grants, in rising order, then an epoch.
 use Rattle.std.specs.Prelude.{ℕ, List, [], ◌∷◌, ◌++◌, length, drop, filter, slice_index, Option, Some, None, ◌==◌, if◌then◌else◌}
 use Rattle.std.specs.List.{range_with_len, flat_map}
 use Rattle.std.specs.Option.{option_to_list}
@@ -10,8 +10,9 @@ use Rattle.dc_station_rules.specs.Epochs.{epoch_of, is_over}
 unfoldable pub granted : List ℕ → List ℕ
 granted word = filter (λ field. slice_index word field == 1) (range_with_len 0 16)
 
--- a cycle, whole or only begun: its reservation word; each burst that has ended, with its field; and the words since then,
--- which are those of the next burst, or of the epoch where each granted field has had its burst
+-- a cycle, whole or only begun: its reservation word; each burst that has ended, with its field;
+-- and the words since then, which are those of the next burst, or of the epoch where each granted
+-- field has had its burst
 pub record Cycle : Type 0 where
   pub reservation : List ℕ
   pub bursts : List (ℕ × List (List ℕ))
@@ -46,24 +47,27 @@ history_words history = flat_map cycle_words (cycles history)
 abbrev pub opened : List ℕ → Cycle
 opened word = record { reservation = word; bursts = []; since = [] }
 
--- the cycle when the words since its last ended burst are these, and belong to the burst of this field:
--- where they end that burst it is one more of the cycle's bursts
+-- the cycle when the words since its last ended burst are these, and belong to the burst of this
+-- field: where they end that burst it is one more of the cycle's bursts
 abbrev pub with_burst : Cycle → ℕ → List (List ℕ) → Cycle
 with_burst cycle field words =
-    if has_ended (burst_of words) then record cycle { bursts = cycle.bursts ++ (field, words) ∷ []; since = [] }
+    if has_ended (burst_of words)
+    then record cycle { bursts = cycle.bursts ++ (field, words) ∷ []; since = [] }
     else record cycle { since = words }
 
 -- the history when these cycles are whole and the words of the next one's epoch are these:
 -- where they end the epoch that cycle is whole too
 abbrev pub with_epoch : List Cycle → Cycle → List (List ℕ) → History
 with_epoch whole cycle words =
-    if is_over (epoch_of words) then record { whole = whole ++ record cycle { since = words } ∷ []; begun = None }
-    else record { whole = whole; begun = Some (record cycle { since = words }) }
+    let now = record cycle { since = words } in
+    if is_over (epoch_of words) then record { whole = whole ++ now ∷ []; begun = None }
+    else record { whole = whole; begun = Some now }
 
 -- the history after whole cycles, a begun one that has these fields left, and one more word
 abbrev pub continued : List Cycle → Cycle → List ℕ → List ℕ → History
 continued whole cycle [] word = with_epoch whole cycle (cycle.since ++ word ∷ [])
-continued whole cycle (field ∷ fields) word = record { whole = whole; begun = Some (with_burst cycle field (cycle.since ++ word ∷ [])) }
+continued whole cycle (field ∷ fields) word =
+    record { whole = whole; begun = Some (with_burst cycle field (cycle.since ++ word ∷ [])) }
 
 -- the history after whole cycles, the begun one if there is one, and one more word
 abbrev pub next_history : List Cycle → Option Cycle → List ℕ → History
@@ -83,7 +87,8 @@ with_rest history (word ∷ words) = with_rest (with_next history word) words
 unfoldable pub history_of : List (List ℕ) → History
 history_of words = with_rest (record { whole = []; begun = None }) words
 
--- what the next word is for: a reservation; the burst of a field, after these words of it; or an epoch, after these words of it
+-- what the next word is for: a reservation; the burst of a field, after these words of it; or an
+-- epoch, after these words of it
 pub data Place : Type 0 where
   at_reservation : Place
   in_burst : ℕ → List (List ℕ) → Place

@@ -1,5 +1,5 @@
--- Epochs: a group of values is split at its mean, word by word, until each part is one value. A tree has the groups that were
--- split and those that are not.
+-- Epochs: a group of values is split at its mean, word by word, until each part is one value. A
+-- tree has the groups that were split and those that are not.
 use Rattle.std.specs.Prelude.{ℕ, ◌+◌, ◌/◌, min, max, Bool, true, false, List, [], ◌∷◌, ◌++◌, Option, Some, None, Result, Ok, Err, option_map, length, drop, nat_lt, nat_le, ◌==◌, ◌&&◌, if◌then◌else◌, is_some, is_none}
 use Rattle.std.specs.Option.{option_or}
 use Rattle.dc_spec.specs.Values.{number_of, last_number}
@@ -12,15 +12,16 @@ pub record Leaf : Type 0 where
   pub low : ℕ
   pub high : ℕ
 
--- why a word breaks an epoch: it is no group; it is no part of the group that it is for; or all stations of that group sent
--- again, but the count does not divide this limb (1 to 15), which is so great
+-- why a word breaks an epoch: it is no group; it is no part of the group that it is for; or all
+-- stations of that group sent again, but the count does not divide this limb (1 to 15), which is so
+-- great
 pub data EpochFault : Type 0 where
   no_group : GroupFault → EpochFault
   no_part : SplitFault → EpochFault
   uneven : ℕ → ℕ → EpochFault
 
--- the groups of an epoch: one that is not split, with its range of numbers; one whose own word showed that its values are
--- equal; or one in two parts, the left before the right
+-- the groups of an epoch: one that is not split, with its range of numbers; one whose own word
+-- showed that its values are equal; or one in two parts, the left before the right
 pub data Tree : Type 0 where
   unsplit : Group → ℕ → ℕ → Tree
   equal_values : Leaf → Tree
@@ -28,7 +29,8 @@ pub data Tree : Type 0 where
 
 -- the leaf of a group whose values are all equal
 abbrev pub leaf_of : Group → ℕ → ℕ → Leaf
-leaf_of group low high = record { value = divided group; times = group.count; low = low; high = high }
+leaf_of group low high =
+    record { value = divided group; times = group.count; low = low; high = high }
 
 -- a group's total divided by its count
 abbrev pub mean_of : Group → ℕ
@@ -39,9 +41,11 @@ abbrev pub equal_or_fault : Group → ℕ → ℕ → Option ℕ → Result Tree
 equal_or_fault group low high None = Ok (equal_values (leaf_of group low high))
 equal_or_fault group low high (Some i) = Err (uneven (i + 1) (limb group i))
 
--- a group in two parts: the left one has the numbers up to the mean, the right one those above it, both within the group's range
+-- a group in two parts: the left one has the numbers up to the mean, the right one those above it,
+-- both within the group's range
 abbrev pub two_parts : ℕ → ℕ → ℕ → Group → Group → Tree
-two_parts mean low high left right = parts (unsplit left low (min high mean)) (unsplit right (max low (mean + 1)) high)
+two_parts mean low high left right =
+    parts (unsplit left low (min high mean)) (unsplit right (max low (mean + 1)) high)
 
 -- a group of which this part sent again: all of it, or a part that leaves this rest
 abbrev pub split_or_fault : Group → ℕ → ℕ → Group → Result Group SplitFault → Result Tree EpochFault
@@ -69,11 +73,15 @@ abbrev pub with_right : Tree → Result Tree EpochFault → Result Tree EpochFau
 with_right left (Err fault) = Err fault
 with_right left (Ok right) = Ok (parts left right)
 
--- a tree after a word was put at its first open group, one of count 2 or more that is not split; none where no group is open
+-- a tree after a word was put at its first open group, one of count 2 or more that is not split;
+-- none where no group is open
 unfoldable pub put : List ℕ → Tree → Option (Result Tree EpochFault)
-put word (unsplit group low high) = if nat_lt group.count 2 then None else Some (split_by group low high word)
+put word (unsplit group low high) =
+    if nat_lt group.count 2 then None else Some (split_by group low high word)
 put word (equal_values leaf) = None
-put word (parts left right) = option_or (option_map (with_left right) (put word left)) (option_map (with_right left) (put word right))
+put word (parts left right) =
+    option_or (option_map (with_left right) (put word left))
+        (option_map (with_right left) (put word right))
 
 -- a group on its range of numbers
 pub record Ranged : Type 0 where
@@ -83,7 +91,8 @@ pub record Ranged : Type 0 where
 
 -- the first group that is open, which the next word is for
 unfoldable pub current : Tree → Option Ranged
-current (unsplit group low high) = if nat_lt group.count 2 then None else Some (record { group = group; low = low; high = high })
+current (unsplit group low high) =
+    if nat_lt group.count 2 then None else Some (record { group = group; low = low; high = high })
 current (equal_values leaf) = None
 current (parts left right) = option_or (current left) (current right)
 
@@ -91,9 +100,11 @@ current (parts left right) = option_or (current left) (current right)
 unfoldable pub come_out : Tree → List Leaf
 come_out (unsplit group low high) = if group.count == 1 then leaf_of group low high ∷ [] else []
 come_out (equal_values leaf) = leaf ∷ []
-come_out (parts left right) = if is_some (current left) then come_out left else come_out left ++ come_out right
+come_out (parts left right) =
+    if is_some (current left) then come_out left else come_out left ++ come_out right
 
--- what words are as an epoch: no word yet; a tree; or void, with the leaves up to then and the first fault
+-- what words are as an epoch: no word yet; a tree; or void, with the leaves up to then and the
+-- first fault
 pub data Epoch : Type 0 where
   unbegun : Epoch
   resolving : Tree → Epoch
@@ -133,10 +144,11 @@ leaves (void_epoch out fault) = out
 
 -- the leaves that a word adds to those of the words before it
 abbrev pub leaves_at : List (List ℕ) → List ℕ → List Leaf
-leaves_at words word = drop (length (leaves (epoch_of words))) (leaves (epoch_of (words ++ word ∷ [])))
+leaves_at words word =
+    drop (length (leaves (epoch_of words))) (leaves (epoch_of (words ++ word ∷ [])))
 
--- what the next word is for: the root, that is all values; the values of the current group that are at most this mean; or
--- nothing, since the epoch is whole or void
+-- what the next word is for: the root, that is all values; the values of the current group that are
+-- at most this mean; or nothing, since the epoch is whole or void
 pub data Request : Type 0 where
   for_root : Request
   for_at_most : ℕ → Request
@@ -156,7 +168,8 @@ request_after (void_epoch out fault) = for_nothing
 -- whether a number lies in the range of the current group and is at most its mean
 abbrev pub is_called : ℕ → Option Ranged → Bool
 is_called number None = false
-is_called number (Some place) = nat_le place.low number && nat_le number place.high && nat_le number (mean_of place.group)
+is_called number (Some place) =
+    nat_le place.low number && nat_le number place.high && nat_le number (mean_of place.group)
 
 -- whether a station with this value sends it in the next word
 abbrev pub calls : List ℕ → Epoch → Bool

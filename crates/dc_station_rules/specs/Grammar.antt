@@ -1,4 +1,5 @@
--- The grammar of a session, as relations: which lists of words are a burst, an epoch, a whole cycle, a begun cycle.
+-- The grammar of a session, as relations: which lists of words are a burst, an epoch, a whole
+-- cycle, a begun cycle.
 use Rattle.std.specs.Prelude.{◌≡◌, ℕ, ◌⊎◌, Bool, true, false, List, [], ◌∷◌, ◌++◌, length, map, Some, IfSome}
 use Rattle.std.specs.List.{AllByRecursion}
 use Rattle.dc_spec.specs.Words.{AreWords}
@@ -13,7 +14,8 @@ NotYet test words = (front rest : List (List ℕ)) → words ≡ front ++ rest �
 -- a test holds on these words, and on no shorter beginning of them
 pub record EndsWith (test : List (List ℕ) → Bool) (words : List (List ℕ)) : Type 0 where
   pub ended : test words ≡ true
-  pub before : (front : List (List ℕ)) (word : List ℕ) (rest : List (List ℕ)) → words ≡ front ++ word ∷ rest → test front ≡ false
+  pub before : (front : List (List ℕ)) (word : List ℕ) (rest : List (List ℕ))
+      → words ≡ front ++ word ∷ rest → test front ≡ false
 
 -- whether words are a whole burst, one of a message or a void one
 abbrev pub is_burst : List (List ℕ) → Bool
@@ -42,12 +44,18 @@ pub record IsVoidBurst (words : List (List ℕ)) (fault : BurstFault) : Type 0 w
   pub is_part : IsMessageBurst (before ++ next ∷ more) message
   pub breaks : fault_at words (length before) ≡ Some fault
 
--- words that are a burst are a message burst or a void one and not both, and the computed burst is that one, with its message or fault
+-- words that are a burst are a message burst or a void one and not both, and the computed burst is
+-- that one, with its message or fault
 pub record IsMessageOrVoid (words : List (List ℕ)) : Type 0 where
-  pub one : AreWords words → IsBurst words → ((message : List ℕ) × IsMessageBurst words message) ⊎ ((fault : BurstFault) × IsVoidBurst words fault)
-  pub message : (message : List ℕ) → IsMessageBurst words message → IsBurst words × (burst_of words ≡ gave message)
-  pub void : (fault : BurstFault) → IsVoidBurst words fault → IsBurst words × (burst_of words ≡ void_burst fault)
-  pub not_both : (message : List ℕ) (fault : BurstFault) → IsMessageBurst words message → IsVoidBurst words fault → ⊥
+  pub one : AreWords words → IsBurst words
+      → ((message : List ℕ) × IsMessageBurst words message)
+      ⊎ ((fault : BurstFault) × IsVoidBurst words fault)
+  pub message : (message : List ℕ) → IsMessageBurst words message
+      → IsBurst words × (burst_of words ≡ gave message)
+  pub void : (fault : BurstFault) → IsVoidBurst words fault
+      → IsBurst words × (burst_of words ≡ void_burst fault)
+  pub not_both : (message : List ℕ) (fault : BurstFault) → IsMessageBurst words message
+      → IsVoidBurst words fault → ⊥
 
 -- bursts, each of them ended
 abbrev pub AreBursts : List (ℕ × List (List ℕ)) → Type 0
@@ -68,7 +76,8 @@ abbrev pub is_all_of_next : List ℕ → List (List ℕ) → Bool
 is_all_of_next [] words = is_epoch words
 is_all_of_next (field ∷ fields) words = is_burst words
 
--- a begun cycle, which is a proper prefix of a whole one: bursts for the first granted fields, then words that are not all of what comes next
+-- a begun cycle, which is a proper prefix of a whole one: bursts for the first granted fields, then
+-- words that are not all of what comes next
 pub record IsBegunCycle (cycle : Cycle) : Type 0 where
   pub left : List ℕ
   pub fields : burst_fields cycle.bursts ++ left ≡ granted cycle.reservation
@@ -80,11 +89,13 @@ pub record IsHistory (history : History) : Type 0 where
   pub whole : AllByRecursion IsWholeCycle history.whole
   pub begun : IfSome history.begun IsBegunCycle
 
--- words are whole cycles and then a proper prefix of one in just one way, which the history of the words is
+-- words are whole cycles and then a proper prefix of one in just one way, which the history of the
+-- words is
 pub record IsCyclesInOneWay (words : List (List ℕ)) : Type 0 where
   pub is_history : IsHistory (history_of words)
   pub spells : history_words (history_of words) ≡ words
-  pub only : (other : History) → IsHistory other → history_words other ≡ words → other ≡ history_of words
+  pub only : (other : History) → IsHistory other → history_words other ≡ words
+      → other ≡ history_of words
 
 -- these words and one or more words of sixteen symbols after them are the words of a whole cycle
 pub record IsProperPrefixOfWhole (words : List (List ℕ)) : Type 0 where

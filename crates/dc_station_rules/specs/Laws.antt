@@ -16,10 +16,11 @@ EveryHistoryIsCyclesInOneWay = (words : List (List ℕ)) → IsCyclesInOneWay wo
 
 -- the words of a begun cycle are a proper prefix of a whole one
 abbrev pub EveryBegunCycleGoesOn : Type 0
-EveryBegunCycleGoesOn = (cycle : Cycle) → IsBegunCycle cycle → IsProperPrefixOfWhole (cycle_words cycle)
+EveryBegunCycleGoesOn =
+    (cycle : Cycle) → IsBegunCycle cycle → IsProperPrefixOfWhole (cycle_words cycle)
 
--- the words of a whole cycle without some at their end, where one is left at least, are the words of a begun one; also where
--- those at the end are not of sixteen symbols
+-- the words of a whole cycle without some at their end, where one is left at least, are the words
+-- of a begun one; also where those at the end are not of sixteen symbols
 abbrev pub EveryProperPrefixIsBegun : Type 0
 EveryProperPrefixIsBegun =
     (word : List ℕ) (words : List (List ℕ)) (whole : Cycle) (next : List ℕ) (more : List (List ℕ))
@@ -42,7 +43,8 @@ times_of out = sum_by (λ (leaf : Leaf). leaf.times) out
 abbrev pub total_of : List Leaf → ℕ
 total_of out = sum_by (λ (leaf : Leaf). leaf.times * number_of leaf.value) out
 
--- the leaves of a whole epoch, each so many times as it was sent, have the count and the total of its root
+-- the leaves of a whole epoch, each so many times as it was sent, have the count and the total of
+-- its root
 abbrev pub LeavesAddUp : Type 0
 LeavesAddUp =
     (words : List (List ℕ)) (out : List Leaf) (whole : IsWholeEpoch words out)
@@ -64,10 +66,12 @@ OnlyRootsAreEmpty =
 abbrev pub LeavesAreFew : Type 0
 LeavesAreFew = (words : List (List ℕ)) → length (leaves (epoch_of words)) ≤ length words
 
--- the message of a burst takes at most fifteen bytes for each of its words, the two length bytes included
+-- the message of a burst takes at most fifteen bytes for each of its words, the two length bytes
+-- included
 abbrev pub MessagesFit : Type 0
 MessagesFit =
-    (words : List (List ℕ)) (message : List ℕ) → IsMessageBurst words message → length message + 2 ≤ 15 * length words
+    (words : List (List ℕ)) (message : List ℕ) → IsMessageBurst words message
+        → length message + 2 ≤ 15 * length words
 
 -- one more word of an epoch adds leaves at the end and changes none of those before
 abbrev pub LeavesGrow : Type 0
@@ -75,11 +79,13 @@ LeavesGrow =
     (words : List (List ℕ)) (word : List ℕ)
     → leaves (epoch_of (words ++ word ∷ [])) ≡ leaves (epoch_of words) ++ leaves_at words word
 
--- there is at most one entry for each of so many words, and there are at most fifteen bytes for each
+-- there is at most one entry for each of so many words, and there are at most fifteen bytes for
+-- each
 abbrev pub HaveRoom : List Entry → ℕ → Type 0
 HaveRoom entries count = (length entries ≤ count) × (bytes_in entries ≤ 15 * count)
 
--- a station's log and its sent entries take at most one entry and fifteen bytes for each received word
+-- a station's log and its sent entries take at most one entry and fifteen bytes for each received
+-- word
 abbrev pub LogsFit : Type 0
 LogsFit =
     (stream : Stream) (words : List (List ℕ))

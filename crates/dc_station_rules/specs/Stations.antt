@@ -1,5 +1,5 @@
--- A station: what it sends, which of its entries count as sent, and which are pending, each as a function of its stream and of
--- the words that it received.
+-- A station: what it sends, which of its entries count as sent, and which are pending, each as a
+-- function of its stream and of the words that it received.
 use Rattle.std.specs.Prelude.{ℕ, Bool, false, List, [], ◌∷◌, ◌++◌, length, map, drop, Option, Some, None, option_map, nat_lt, nat_le, ◌==◌, ◌&&◌, if◌then◌else◌}
 use Rattle.std.specs.List.{flat_map, list_any}
 use Rattle.std.specs.Option.{option_to_list}
@@ -51,7 +51,8 @@ abbrev pub first_long : List (List ℕ) → Option ℕ → Cycle → List (List 
 first_long [] mark cycle = []
 first_long (message ∷ longs) None cycle = []
 first_long (message ∷ longs) (Some field) cycle =
-    if gave_message message (message_of (burst_of (words_for field cycle.bursts))) then message ∷ [] else []
+    if gave_message message (message_of (burst_of (words_for field cycle.bursts))) then message ∷ []
+    else []
 
 -- the messages of a pending stream that a cycle sends: one or none
 unfoldable pub longs_sent : Stream → Cycle → List (List ℕ)
@@ -60,7 +61,8 @@ longs_sent stream cycle = first_long stream.longs (marked stream) cycle
 -- whether a leaf is this value, and its range holds the value's number
 abbrev pub is_leaf_of : List ℕ → Leaf → Bool
 is_leaf_of value leaf =
-    bytes_eq leaf.value value && nat_le leaf.low (number_of value) && nat_le (number_of value) leaf.high
+    bytes_eq leaf.value value && nat_le leaf.low (number_of value)
+        && nat_le (number_of value) leaf.high
 
 -- the first pending value, where a leaf of the epoch is one of it
 abbrev pub first_short : List (List ℕ) → List Leaf → List (List ℕ)
@@ -92,7 +94,8 @@ left_after stream (cycle ∷ cycles) = left_after (left_by stream cycle) cycles
 
 -- the entries of a pending stream that a cycle sends, the message first
 abbrev pub sent_in : Stream → Cycle → List Entry
-sent_in stream cycle = map long (longs_sent stream cycle) ++ map (λ value. short value 1) (shorts_sent stream cycle)
+sent_in stream cycle =
+    map long (longs_sent stream cycle) ++ map (λ value. short value 1) (shorts_sent stream cycle)
 
 -- the entries that cycles send
 abbrev pub sent_over : Stream → List Cycle → List Entry
@@ -109,7 +112,8 @@ pending_of stream words = left_after stream (cycles (history_of words))
 
 -- how many values and messages are pending
 abbrev pub pending_counts : Stream → List (List ℕ) → ℕ × ℕ
-pending_counts stream words = (length (pending_of stream words).shorts, length (pending_of stream words).longs)
+pending_counts stream words =
+    (length (pending_of stream words).shorts, length (pending_of stream words).longs)
 
 -- the word that marks a field
 abbrev pub mark_word : Option ℕ → List ℕ
@@ -119,7 +123,8 @@ mark_word (Some field) = word_of (λ l. if l == field then 1 else 0)
 -- fragment i of the first message, and zeros after its last fragment
 abbrev pub long_word : List (List ℕ) → ℕ → List ℕ
 long_word [] i = zero_word
-long_word (message ∷ longs) i = if nat_lt i (fragment_count (length message)) then fragment message i else zero_word
+long_word (message ∷ longs) i =
+    if nat_lt i (fragment_count (length message)) then fragment message i else zero_word
 
 -- word i of the burst of a field, of a station that marked this field or another or none
 abbrev pub burst_word : Option ℕ → ℕ → List (List ℕ) → ℕ → List ℕ
@@ -134,13 +139,15 @@ epoch_word (value ∷ shorts) epoch = if calls value epoch then contended_word v
 -- the word at a place of a station that had this stream pending when the cycle began
 unfoldable pub word_for : Stream → Place → List ℕ
 word_for stream at_reservation = mark_word (marked stream)
-word_for stream (in_burst field words) = burst_word (marked stream) field stream.longs (length words)
+word_for stream (in_burst field words) =
+    burst_word (marked stream) field stream.longs (length words)
 word_for stream (in_epoch words) = epoch_word stream.shorts (epoch_of words)
 
 -- a station's word in a history, where the stream is what was pending before the begun cycle
 abbrev pub word_in : Stream → History → List ℕ
 word_in stream history = word_for (left_after stream history.whole) (place_in history.begun)
 
--- the plain word: what a station with this stream sends after these received words, before keys are added
+-- the plain word: what a station with this stream sends after these received words, before keys are
+-- added
 unfoldable pub plain_word : Stream → List (List ℕ) → List ℕ
 plain_word stream words = word_in stream (history_of words)
