@@ -98,9 +98,9 @@ def station_sessions(case):
 
 
 def session_words(case):
-    """The words of each peer's `send` frames in order, by round and station."""
+    """The words of each peer's `send` frames in order, by round and station. Peers past the number of stations are not asked."""
     peers = {}
-    for one in case["peers"]:
+    for one in case["peers"][: case["stations"]]:
         data = bytes.fromhex(one)
         station = int.from_bytes(data[3:5], "big")
         peers[station] = words_in_order(data[9:], "send")[: case["words"]]
@@ -111,13 +111,15 @@ def hub_sessions(case):
     """What a hub sent to each peer, printed and wrote in a session that was done or whose output failed."""
     if case["status"] not in (0, 9):
         return None
+    if any(case["sent"][case["stations"] :]):
+        raise ValueError("something was sent to a peer that is no station")
     rounds = session_words(case)
     published = words([digits for one in rounds for digits in one])
     session = record(stations=case["stations"], rounds=case["words"], words=published)
     sums = [sum_word(one) for one in rounds]
     broadcasts = listing([frame("all", (number, digits)) for number, digits in enumerate(sums)])
     claims = [f"superposed {session} ≡ {words(sums)}"]
-    claims += [f"frames_bytes {broadcasts} ≡ {byte_list(sent)}" for sent in case["sent"]]
+    claims += [f"frames_bytes {broadcasts} ≡ {byte_list(sent)}" for sent in case["sent"][: case["stations"]]]
     if case["out"] is not None:
         claims.append(f"transcript_bytes {session} ≡ {byte_list(case['out'])}")
     claims.append(sent_claim(f"words_text (superposed {session})", case["printed"].encode().hex(), case["status"] == 0))
