@@ -1,6 +1,42 @@
 """Kinds of files: what a format writes, and what its reader reads or refuses. The files are taken apart here, by other code than the program's."""
 
-from .kind import Kind, byte_list, listing, numbers, record, stream, turn, words
+import re
+
+from .kind import Kind, Unchecked, byte_list, key_pair, listing, local_name, numbers, record, stream, turn, words
+
+# All definitions that these kinds use.
+WRITING = {
+    "std.specs.Fmt": "digits",
+    "dc_spec.specs.Words": "word_of",
+    "dc_spec.specs.Recorded": "transcript_bytes",
+    "dc_spec.specs.Scripts": "all_sum each",
+    "dc_formats.specs.KeyFile": "keys_bytes",
+    "dc_formats.specs.StreamFile": "stream_text",
+    "dc_formats.specs.ScriptFile": "script_text",
+    "dc_formats.specs.ListFiles": "images_text wanted_text",
+}
+READ_TRANSCRIPTS = {
+    "dc_spec.specs.Words": "word_of",
+    "dc_superpose.specs.Reading": "words_of body_of sized transcript_of",
+    "dc_superpose.specs.declared.fault.TranscriptFault.TheVariants": "Truncated Magic Stations Words Symbol Rest",
+}
+READ_KEYS = {
+    "dc_keyfile.specs.Reading": "pads_of padded pair_of pairs_of body_of sized keys_of",
+    "dc_keyfile.specs.declared.fault.KeyFault.TheVariants": "Truncated Magic Version Stations Words TooLarge "
+    "Pair=NoPair Order Symbol FirstSecondPad Rest",
+}
+READ_STREAMS = {
+    "std.specs.Fmt": "digits",
+    "dc_stream.specs.Reading": "with_short with_long with_coin stream_with at_line stream_of",
+    "dc_stream.specs.declared.fault.StreamKind.TheVariants": "NotText Word Order TooMany Number Hex Length",
+}
+READ_SCRIPTS = {
+    "std.specs.Fmt": "digits",
+    "dc_spec.specs.Words": "word_of",
+    "dc_spec.specs.Scripts": "all_sum each",
+    "dc_script.specs.Reading": "at_line script_of",
+    "dc_script.specs.declared.fault.ScriptKind.TheVariants": "NotText Header Form Round TooMany Misplaced Order Missing",
+}
 
 
 def big_endian(data, at, size):
@@ -10,7 +46,7 @@ def big_endian(data, at, size):
 
 def symbols(data, at, count):
     """That many symbols of four bytes from a place on."""
-    return numbers([big_endian(data, at + 4 * index, 4) for index in range(count)])
+    return [big_endian(data, at + 4 * index, 4) for index in range(count)]
 
 
 def lines_of(data):
@@ -21,135 +57,189 @@ def lines_of(data):
 def transcript(data):
     """The content of a transcript."""
     stations, rounds = big_endian(data, 4, 2), big_endian(data, 6, 2)
-    told = listing([symbols(data, 8 + 64 * place, 16) for place in range(stations * rounds)])
-    return record(stations=stations, rounds=rounds, words=told)
+    published = listing([numbers(symbols(data, 8 + 64 * place, 16)) for place in range(stations * rounds)])
+    return record(stations=stations, rounds=rounds, words=published)
+
+
+def pairs_of(data):
+    """The pairs of a key file of version 1."""
+    count = big_endian(data, 6, 2)
+    pairs = []
+    for place in range(big_endian(data, 8, 4)):
+        at = 12 + place * (4 + 128 * count)
+        first, second = symbols(data, at + 4, 16 * count), symbols(data, at + 4 + 64 * count, 16 * count)
+        pairs.append({"u": big_endian(data, at, 2), "v": big_endian(data, at + 2, 2), "a": first, "b": second})
+    return pairs
 
 
 def key_file(data):
-    """The content of a key file."""
-    stations, count, pairs = big_endian(data, 4, 2), big_endian(data, 6, 2), big_endian(data, 8, 4)
-    told = []
-    for place in range(pairs):
-        at = 12 + place * (4 + 128 * count)
-        first, second = symbols(data, at + 4, 16 * count), symbols(data, at + 4 + 64 * count, 16 * count)
-        told.append(record(u=big_endian(data, at, 2), v=big_endian(data, at + 2, 2), a=first, b=second))
-    return record(stations=stations, words=count, pairs=listing(told))
+    """The content of a key file of version 1."""
+    pairs = listing([key_pair(one) for one in pairs_of(data)])
+    return record(stations=big_endian(data, 4, 2), words=big_endian(data, 6, 2), pairs=pairs)
+
+
+def stream_parts(data):
+    """The content of a stream file, as the vectors write a stream."""
+    parts = [line.split(" ") for line in lines_of(data)]
+    rest = {kind: [line[1] for line in parts if line[0] == kind] for kind in ["short", "long", "coin"]}
+    return {"shorts": rest["short"], "longs": rest["long"], "coins": rest["coin"]}
 
 
 def stream_file(data):
     """The content of a stream file."""
-    told = [line.split(" ") for line in lines_of(data)]
-    rest = {kind: [line[1] for line in told if line[0] == kind] for kind in ["short", "long", "coin"]}
-    return stream({"shorts": rest["short"], "longs": rest["long"], "coins": rest["coin"]})
+    return stream(stream_parts(data))
 
 
 def script(data):
-    """The content of a script."""
+    """The content of a script of version 1."""
     rounds = []
     for line in lines_of(data)[1:]:
-        name, *told = line.split(" ")
+        name, *rest = line.split(" ")
         if name == "round":
             rounds.append({"says": [], "each": []})
         elif name == "all":
             rounds[-1]["each"] = None
         else:
-            rounds[-1]["says" if name == "say" else "each"].append((int(told[0]), told[1]))
+            rounds[-1]["says" if name == "say" else "each"].append((int(rest[0]), rest[1]))
     return listing([turn(one) for one in rounds])
 
 
 def images(data):
-    """The content of a list of images."""
+    """The content of a PERM file."""
     return numbers(lines_of(data))
 
 
 def wanted(data):
-    """The content of a list of wanted words."""
+    """The content of a WANTED file."""
     return words(lines_of(data))
 
 
-def written(name, writer, content):
-    """The claims that what a format writes of a file's content is the file."""
+CONTENTS = {
+    "transcript": ("transcript_bytes", transcript),
+    "keys": ("keys_bytes", key_file),
+    "stream": ("stream_text", stream_file),
+    "script": ("script_text", script),
+    "perm": ("images_text", images),
+    "wanted": ("wanted_text", wanted),
+}
+NOT_READ = {
+    "perm": "reading PERM is not defined yet",
+    "wanted": "reading WANTED is not defined yet",
+    "manifest": "manifests are not defined yet",
+}
+
+
+def same_bytes(name, data):
+    """The claim that what a format writes of a file's content is the file."""
+    writer, content = CONTENTS[name]
+    return f"{writer} {content(data)} ≡ {byte_list(data.hex())}"
+
+
+def written(name):
+    """The claims on the accepted files of a format: its content, written, is the file."""
 
     def claims(case):
         if case["format"] != name or case["fault"] is not None:
             return None
-        return [f"{writer} {content(bytes.fromhex(case['bytes']))} ≡ {byte_list(case['bytes'])}"]
+        return [same_bytes(name, bytes.fromhex(case["bytes"]))]
 
     return claims
 
 
-def fault(told):
+def fault(printed, homes):
     """A fault as it is printed (`symbol pair=0 index=2 seen=70000`, `line=3 not-text`) as a term."""
-    name, *fields = told.split(" ")
+    name, *fields = printed.split(" ")
     if name.startswith("line="):
-        return f"at_line {name[5:]} ({fault(' '.join(fields))})"
+        return f"at_line {name[5:]} ({fault(' '.join(fields), homes)})"
     variant = "".join(part.capitalize() for part in name.split("-"))
-    return " ".join(["NoPair" if variant == "Pair" else variant, *(field.split("=")[1] for field in fields)])
+    variant = "NoPair" if variant == "Pair" else variant
+    if variant not in {local_name(known) for names in homes.values() for known in names.split()}:
+        raise Unchecked(f"the fault {name} is not defined yet")
+    return " ".join([variant, *(field.split("=")[1] for field in fields)])
 
 
-def read(name, reader, content):
-    """The claims that what is read of a file is its content, or its first fault."""
+def read_claim(reader, homes, data, printed, content):
+    """The claim that what is read of a file is its content, or its first fault."""
+    due = f"Err ({fault(printed, homes)})" if printed else f"Ok {content(data)}"
+    return f"{reader} {byte_list(data.hex())} ≡ {due}"
+
+
+def read(name, reader, homes):
+    """The claims on the files of a format: what is read of each."""
 
     def claims(case):
         if case["format"] != name:
             return None
-        due = f"Err ({fault(case['fault'])})" if case["fault"] else f"Ok {content(bytes.fromhex(case['bytes']))}"
-        return [f"{reader} {byte_list(case['bytes'])} ≡ {due}"]
+        return [read_claim(reader, homes, bytes.fromhex(case["bytes"]), case["fault"], CONTENTS[name][1])]
 
     return claims
 
 
-PRELUDE = "use Rattle.std.specs.Prelude.{◌≡◌, refl, List, [], ◌∷◌, ◌++◌, Ok, Err}\n"
-DIGITS = "use Rattle.std.specs.Fmt.{digits}\n"
-WORDS = "use Rattle.dc_spec.specs.Words.{word_of}\n"
-SESSIONS = "use Rattle.dc_spec.specs.Recorded.{Recorded, transcript_bytes}\n"
-NETS = "use Rattle.dc_protocol.specs.Net.{Stream, all_sum, each, Turn, Pair, Keys}\n"
-
-WRITING = PRELUDE + DIGITS + WORDS + SESSIONS + NETS + """use Rattle.dc_formats.specs.KeyFile.{keys_bytes}
-use Rattle.dc_formats.specs.StreamFile.{stream_text}
-use Rattle.dc_formats.specs.ScriptFile.{script_text}
-use Rattle.dc_formats.specs.ListFiles.{images_text, wanted_text}
-"""
-READ_SESSIONS = PRELUDE + WORDS + SESSIONS + """use Rattle.dc_superpose.specs.Reading.{words_of, body_of, sized, transcript_of}
-use Rattle.dc_superpose.specs.declared.fault.TranscriptFault.TheVariants.{Truncated, Magic, Stations, Words, Symbol, Rest}
-"""
-READ_KEYS = PRELUDE + """use Rattle.dc_protocol.specs.Net.{Pair, Keys}
-use Rattle.dc_keyfile.specs.Reading.{pads_of, padded, pair_of, pairs_of, body_of, sized, keys_of}
-use Rattle.dc_keyfile.specs.declared.fault.KeyFault.TheVariants.{Truncated, Magic, Version, Stations, Words, TooLarge, Pair as NoPair, Order, Symbol, FirstSecondPad, Rest}
-"""
-READ_STREAMS = PRELUDE + DIGITS + NETS + """use Rattle.dc_stream.specs.Reading.{with_short, with_long, with_coin, stream_with, at_line, stream_of}
-use Rattle.dc_stream.specs.declared.fault.StreamKind.TheVariants.{NotText, Word, Order, TooMany, Number, Hex, Length}
-"""
-READ_SCRIPTS = PRELUDE + DIGITS + WORDS + NETS + """use Rattle.dc_script.specs.Reading.{at_line, script_of}
-use Rattle.dc_script.specs.declared.fault.ScriptKind.TheVariants.{NotText, Header, Form, Round, TooMany, Misplaced, Order, Missing}
-"""
+def without_terms(one):
+    """A round of a script of version 1, whose words have no terms."""
+    if any(said[2] for said in one["says"] + (one["each"] or [])):
+        raise ValueError("a script of version 1 has no terms")
+    return {"says": [said[:2] for said in one["says"]], "each": one["each"] and [said[:2] for said in one["each"]]}
 
 
-def writing(name, writer, content):
-    """A kind of accepted files: what is written of a content."""
-    return Kind("files", WRITING, "digits word_of", written(name, writer, content), 100, ("dc_formats",))
+def scripts2(case):
+    """What is read of a script of version 1, or of a file that is refused before its version shows; and what is written of it."""
+    data = bytes.fromhex(case["bytes"])
+    if is_second_script(case):
+        return None
+    if case["fault"] is not None:
+        return [read_claim("script_of", READ_SCRIPTS, data, case["fault"], script)]
+    turns = listing([turn(without_terms(one)) for one in case["script"]])
+    return [f"script_of {byte_list(case['bytes'])} ≡ Ok {turns}", f"script_text {turns} ≡ {byte_list(case['bytes'])}"]
 
 
-def reading(name, reader, content, uses, unfolding, crate):
-    """A kind of accepted and refused files: what is read of bytes."""
-    return Kind("files", uses, unfolding, read(name, reader, content), 100, (crate,))
+def is_second_script(case):
+    """Whether a script has version 2."""
+    return bytes.fromhex(case["bytes"]).startswith(b"dcscript 2\n")
 
+
+def has_ends(pair, ends):
+    """Whether a pair has these numbers, and these first and last four pads of each list."""
+    pads = [pair["u"], pair["v"], pair["a"][:4], pair["a"][-4:], pair["b"][:4], pair["b"][-4:]]
+    return pads == [ends[name] for name in ["u", "v", "a_first", "a_last", "b_first", "b_last"]]
+
+
+def seeds(case):
+    """What is read of a key file of version 1, or of a file that is refused by its first bytes."""
+    if is_second_key_file(case):
+        return None
+    data = bytes.fromhex(case["bytes"])
+    if case["keys_fault"] is None and not all(map(has_ends, pairs_of(data), case["pairs"])):
+        raise ValueError("the pads of the line are not those of its file")
+    return [read_claim("keys_of", READ_KEYS, data, case["keys_fault"], key_file)]
+
+
+def is_second_key_file(case):
+    """Whether a key file has version 2, and is not refused before that shows."""
+    early = case["keys_fault"] is not None and re.search("^magic|need=12$", case["keys_fault"])
+    return bytes.fromhex(case["bytes"])[3:4] == b"\x02" and not early
+
+
+# what of a line no kind here checks
+UNCHECKED = {
+    "files": lambda case: NOT_READ.get(case["format"], None if case["format"] in CONTENTS else f"no format {case['format']} here"),
+    "scripts2": lambda case: "scripts of version 2 are not defined yet" if is_second_script(case) else None,
+    "seeds": lambda case: "key files of version 2 are not defined yet" if is_second_key_file(case) else None,
+}
 
 KINDS = {
-    "transcripts_written": writing("transcript", "transcript_bytes", transcript),
-    "keys_written": writing("keys", "keys_bytes", key_file),
-    "streams_written": writing("stream", "stream_text", stream_file),
-    "scripts_written": writing("script", "script_text", script),
-    "images_written": writing("perm", "images_text", images),
-    "wanted_written": writing("wanted", "wanted_text", wanted),
-    "transcripts_read": reading(
-        "transcript", "transcript_of", transcript, READ_SESSIONS, "word_of words_of body_of sized transcript_of", "dc_superpose"
+    "transcripts_written": Kind("files", WRITING, "word_of", written("transcript"), 100),
+    "keys_written": Kind("files", WRITING, "", written("keys"), 100),
+    "streams_written": Kind("files", WRITING, "digits", written("stream"), 100),
+    "scripts_written": Kind("files", WRITING, "digits word_of", written("script"), 100),
+    "images_written": Kind("files", WRITING, "digits", written("perm"), 100),
+    "wanted_written": Kind("files", WRITING, "word_of", written("wanted"), 100),
+    "transcripts_read": Kind(
+        "files", READ_TRANSCRIPTS, "word_of words_of body_of sized transcript_of", read("transcript", "transcript_of", READ_TRANSCRIPTS), 100
     ),
-    "keys_read": reading(
-        "keys", "keys_of", key_file, READ_KEYS, "pads_of padded pair_of pairs_of body_of sized keys_of", "dc_keyfile"
-    ),
-    "streams_read": reading(
-        "stream", "stream_of", stream_file, READ_STREAMS, "digits with_short with_long with_coin stream_with", "dc_stream"
-    ),
-    "scripts_read": reading("script", "script_of", script, READ_SCRIPTS, "digits word_of script_of", "dc_script"),
+    "keys_read": Kind("files", READ_KEYS, "pads_of padded pair_of pairs_of body_of sized keys_of", read("keys", "keys_of", READ_KEYS), 100),
+    "streams_read": Kind("files", READ_STREAMS, "digits with_short with_long with_coin stream_with", read("stream", "stream_of", READ_STREAMS), 100),
+    "scripts_read": Kind("files", READ_SCRIPTS, "digits word_of script_of", read("script", "script_of", READ_SCRIPTS), 100),
+    "scripts2": Kind("scripts2", {**READ_SCRIPTS, **WRITING}, "digits word_of script_of", scripts2, 50),
+    "seeds": Kind("seeds", READ_KEYS, "pads_of padded pair_of pairs_of body_of sized keys_of", seeds, 50),
 }

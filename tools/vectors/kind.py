@@ -1,17 +1,59 @@
-"""What a kind of vectors is, and how values are written in a lemma."""
+"""What a kind of cases is, and how values are written in a lemma."""
 
+import re
 from typing import Callable, NamedTuple
+
+
+class Unchecked(Exception):
+    """Raised by `claims` where a line cannot be checked: why."""
 
 
 class Kind(NamedTuple):
     """How the lines of one file become lemmas."""
 
-    file: str  # the lines stand in FOLDER/file.jsonl
-    uses: str  # the `use` lines of each lemma file
+    file: str  # the lines are in FOLDER/file.jsonl
+    homes: dict  # module (`crate.specs.Module`) -> names that the statements may use, with blanks between; `theirs=ours` where the statements use another name
     unfolding: str  # the names after `unfolding`, or "" for no such line
-    claims: Callable[[dict], list]  # the statements of one line (as text); `refl` has to prove each. None: no case of this kind
-    batch: int = 10  # how many cases stand in one lemma file
-    stands_on: tuple = ("dc_protocol",)  # the crates whose words the statements use
+    claims: Callable[[dict], list]  # the statements of one line; `refl` has to prove each. None: not a case of this kind
+    batch: int = 10  # how many cases one lemma file has
+    helpers: str = ""  # definitions that the statements use, put at the top of each lemma file
+
+
+# what every lemma file may use
+STD = {
+    "std.specs.Prelude": "ℕ List take drop length map filter Option Some None Result Ok Err true false",
+    "std.specs.List": "range_with_len flat_map",
+}
+ALWAYS = "use Rattle.std.specs.Prelude.{◌≡◌, refl, [], ◌∷◌, ◌++◌}"
+
+
+def local_name(name):
+    """The name by which a lemma file calls a definition: of `theirs=ours` it is `ours`."""
+    return name.split("=")[-1]
+
+
+def used_homes(kind, text):
+    """The modules and names of a kind that a text mentions."""
+    mentioned = set(re.findall(r"[^\W\d]\w*", text))
+    homes = {}
+    for module, names in {**STD, **kind.homes}.items():
+        chosen = [name for name in names.split() if local_name(name) in mentioned]
+        if chosen:
+            homes[module] = chosen
+    return homes
+
+
+def use_lines(kind, text):
+    """The `use` lines that a text needs."""
+    lines = [ALWAYS]
+    for module, names in used_homes(kind, text).items():
+        lines.append(f"use Rattle.{module}.{{{', '.join(name.replace('=', ' as ') for name in names)}}}")
+    return "\n".join(lines)
+
+
+def crates_of(kind):
+    """The crates of the repository that a kind's names are from."""
+    return {module.split(".")[0] for module in kind.homes} - {"std"}
 
 
 def listing(items):
@@ -36,6 +78,8 @@ def numbers(items):
 
 def word(digits):
     """A word of 80 hexadecimal digits as a list of sixteen symbols."""
+    if len(digits) != 80:
+        raise ValueError("a word has 80 digits")
     return numbers([int(digits[at : at + 5], 16) for at in range(0, 80, 5)])
 
 
@@ -45,8 +89,13 @@ def words(items):
 
 
 def byte_list(digits):
-    """A byte string (a value, a message) in hexadecimal digits as a list of bytes."""
+    """Bytes in hexadecimal digits as a list of numbers."""
     return numbers(bytes.fromhex(digits))
+
+
+def text_codes(text):
+    """A text as the list of its bytes."""
+    return numbers(text.encode())
 
 
 def option(item):
@@ -55,14 +104,14 @@ def option(item):
 
 
 def entry(item):
-    """An entry of a log or a sent list: its kind, its bytes and, at a short, its times."""
+    """An entry of a log or of a list of sent entries: its kind, its bytes and, for a short, its times."""
     if "short" in item:
         return f"(short {byte_list(item['short'])} {item['times']})"
     return f"(long {byte_list(item['long'])})"
 
 
 def stream(item):
-    """A station's stream."""
+    """The stream of a station."""
     shorts = listing([byte_list(value) for value in item["shorts"]])
     longs = listing([byte_list(message) for message in item["longs"]])
     return record(shorts=shorts, longs=longs, coins=numbers(item["coins"]))
@@ -74,6 +123,11 @@ def stations_and_words(items):
 
 
 def turn(item):
-    """A round of a script."""
+    """One round of a script."""
     delivery = "all_sum" if item["each"] is None else f"(each {stations_and_words(item['each'])})"
     return record(says=stations_and_words(item["says"]), delivery=delivery)
+
+
+def key_pair(item):
+    """A pair of stations with its first and second pads."""
+    return record(u=item["u"], v=item["v"], a=numbers(item["a"]), b=numbers(item["b"]))

@@ -1,6 +1,29 @@
-"""The kinds of the whole net: keys, forests, hubs, runs, twins, steerings."""
+"""Kinds of the whole net: keys, forests, hubs, runs, twins, steerings."""
 
-from .kind import Kind, entry, listing, numbers, option, pair, record, stream, turn, word, words
+from .kind import Kind, entry, key_pair, listing, numbers, option, pair, record, stream, turn, word, words
+
+# All definitions that these kinds use. `computing` opens every definition of one station.
+PADS = {"dc_spec.specs.Words": "word_of", "dc_key_rules.specs.PairKeys": "key_word symbols"}
+GRAPHS = {
+    "dc_spec.specs.Words": "word_of",
+    "dc_graph_rules.specs.Graphs": "reached part is_joined",
+    "dc_graph_rules.specs.Forests": "spreads chain root parents below_sums",
+}
+HUBS = {
+    "dc_spec.specs.Words": "word_of",
+    "dc_hub_rules.specs.Hubs": "answers round_start waiting complete no_station over old ahead repeated",
+}
+NETS = {
+    "dc_spec.specs.Entries": "short long",
+    "dc_spec.specs.Scripts": "all_sum each",
+    "dc_station_rules.proofs.Computing": "computing",
+    "dc_graph_rules.specs.Graphs": "reached",
+    "dc_graph_rules.specs.Forests": "spreads chain",
+    "dc_net_rules.specs.Runs": "rounds_of run_of is_alike",
+    "dc_net_rules.specs.Twins": "admits demands shifts twin",
+    "dc_net_rules.specs.Steerings": "changes_up_to steering_of steered_net",
+    "dc_spec.specs.Symbols": "power_below",
+}
 
 
 def edges(items):
@@ -11,11 +34,6 @@ def edges(items):
 def flat_words(rounds):
     """The words of all rounds in one list."""
     return words([digits for items in rounds for digits in items])
-
-
-def key_pair(item):
-    """A pair with its pads."""
-    return record(u=item["u"], v=item["v"], a=numbers(item["a"]), b=numbers(item["b"]))
 
 
 def net(item):
@@ -66,10 +84,10 @@ def answer(item):
         return f"(complete {word(item['complete'])})"
     if "waiting" in item:
         return f"(waiting {item['waiting']})"
-    name, *told = item["fault"].split()
+    name, *fields = item["fault"].split()
     if name == "repeated":
         return f"(repeated {word(item['kept'])})"
-    number = told[0].split("=")[1] if told else ""
+    number = fields[0].split("=")[1] if fields else ""
     return {"over": "over", "station": f"(no_station {number})", "old": f"(old {number})", "ahead": f"(ahead {number})"}[name]
 
 
@@ -122,50 +140,21 @@ def twins(line):
 def steerings(line):
     """Where two neighbours first differ, the changes of their pads, and that the steered net has the wanted sums after that."""
     expected = record(round=line["round"], symbol=line["symbol"], first=numbers(line["first"]), second=numbers(line["second"]))
-    asked = f"{net(line['net'])} {line['u']} {line['v']} {words(line['wanted'])}"
+    given = f"{net(line['net'])} {line['u']} {line['v']} {words(line['wanted'])}"
     return [
-        f"steering_of {asked} ≡ {expected}",
-        f"drop {line['round'] + 1} (run_of (steered_net {asked})).sums ≡ {words(line['wanted'])}",
-        f"take {line['round'] + 1} (run_of (steered_net {asked})).sums ≡ take {line['round'] + 1} (run_of {net(line['net'])}).sums",
+        f"steering_of {given} ≡ {expected}",
+        f"drop {line['round'] + 1} (run_of (steered_net {given})).sums ≡ {words(line['wanted'])}",
+        f"take {line['round'] + 1} (run_of (steered_net {given})).sums ≡ take {line['round'] + 1} (run_of {net(line['net'])}).sums",
     ]
 
 
-PRELUDE = "use Rattle.std.specs.Prelude.{◌≡◌, refl, List, [], ◌∷◌, Some, None, map, take, drop, true, false}\n"
-RANGE = "use Rattle.std.specs.List.{range_with_len}\n"
-WORDS = "use Rattle.dc_spec.specs.Words.{word_of}\n"
-HERE = "use Rattle.dc_protocol.specs."
-NETS = PRELUDE + "use Rattle.dc_protocol.proofs.Computing.{computing}\n" + HERE + "Net.{short, long, all_sum, each}\n" + HERE + "Runs.{rounds_of}\n"
-NET_WORDS = "computing rounds_of"
+RUNNING = "computing rounds_of"
 
 KINDS = {
-    "keys": Kind("keys", PRELUDE + WORDS + HERE + "PairKeys.{key_word, symbols}", "word_of", keys, 30),
-    "forests": Kind(
-        "forests",
-        PRELUDE + WORDS + RANGE + HERE + "Graphs.{reached, part, is_joined}\n" + HERE + "Forests.{spreads, chain, root, parents, below_sums}",
-        "word_of reached spreads chain",
-        forests,
-        20,
-    ),
-    "hubs": Kind(
-        "hubs",
-        PRELUDE + WORDS + HERE + "Hubs.{answers, round_start, waiting, complete, no_station, over, old, ahead, repeated}",
-        "word_of round_start",
-        hubs,
-        20,
-    ),
-    "runs": Kind("runs", NETS + HERE + "Runs.{run_of, is_alike}", NET_WORDS, runs, 2),
-    "twins": Kind(
-        "twins",
-        NETS + HERE + "Graphs.{reached}\n" + HERE + "Forests.{spreads, chain}\n" + HERE + "Twins.{admits, demands, shifts, twin}\n" + HERE + "Runs.{run_of}",
-        NET_WORDS + " reached spreads chain",
-        twins,
-        2,
-    ),
-    "steerings": Kind(
-        "steerings",
-        NETS + HERE + "Steerings.{power_below, changes_up_to, steering_of, steered_net}\n" + HERE + "Runs.{run_of}",
-        NET_WORDS + " power_below changes_up_to",
-        steerings,
-        2,
-    ),
+    "keys": Kind("keys", PADS, "word_of", keys, 30),
+    "forests": Kind("forests", GRAPHS, "word_of reached spreads chain", forests, 20),
+    "hubs": Kind("hubs", HUBS, "word_of round_start", hubs, 20),
+    "runs": Kind("runs", NETS, RUNNING, runs, 2),
+    "twins": Kind("twins", NETS, RUNNING + " reached spreads chain", twins, 2),
+    "steerings": Kind("steerings", NETS, RUNNING + " power_below changes_up_to", steerings, 2),
 }

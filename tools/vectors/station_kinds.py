@@ -4,36 +4,48 @@ import re
 
 from .kind import Kind, byte_list, entry, listing, numbers, option, stream, word, words
 
-# `computing` opens every definition of one station
-PRELUDE = "use Rattle.std.specs.Prelude.{◌≡◌, refl, ℕ, List, [], ◌∷◌, ◌++◌, take, drop, length, map, Option, Some, None, Result, Ok, Err}\nuse Rattle.dc_protocol.proofs.Computing.{computing}\n"
+# All definitions that these kinds use. `computing` opens every definition of one station.
+HOMES = {
+    "dc_spec.specs.Groups": "Group GroupFault group_count group_limb SplitFault split_count split_limb "
+    "group_of total mean minus equal_value",
+    "dc_spec.specs.Entries": "Entry short long Stream",
+    "dc_station_rules.specs.Bursts": "Burst goes_on gave void_burst burst_count burst_limb burst_length burst_padding "
+    "burst_of fragments",
+    "dc_station_rules.specs.Epochs": "Epoch void_epoch Leaf EpochFault no_group no_part uneven Asked for_root "
+    "for_at_most for_nothing epoch_of leaves_at asked is_over",
+    "dc_station_rules.specs.Cycles": "Place at_reservation in_burst in_epoch place_of",
+    "dc_station_rules.specs.Stations": "log_of sent_of pending_counts plain_word",
+    "dc_station_rules.proofs.Computing": "computing",
+}
 
 
-def told(fault):
+def places_of(fault):
     """The numbers of a fault as it is printed."""
-    return [int(number) for number in re.findall(r"=(\d+)", fault)]
+    return " ".join(re.findall(r"=(\d+)", fault))
 
 
 def group_fault(fault):
     name = "group_count" if "count" in fault else "group_limb"
-    return f"({name} {' '.join(map(str, told(fault)))})"
+    return f"({name} {places_of(fault)})"
 
 
 def split_fault(fault):
     name = "split_count" if "count" in fault else "split_limb"
-    return f"({name} {' '.join(map(str, told(fault)))})"
+    return f"({name} {places_of(fault)})"
 
 
-def group(digits):
-    """A word of digits that is a group, as that group."""
+def group(digits, count=None):
+    """A word of digits that is a group, as that group; its count is the one given, where one is."""
     symbols = [int(digits[at : at + 5], 16) for at in range(0, 80, 5)]
-    return f"(record {{ count = {symbols[0]}; limbs = {numbers(symbols[1:])} }})"
+    return f"(record {{ count = {symbols[0] if count is None else count}; limbs = {numbers(symbols[1:])} }})"
 
 
 def groups(case):
+    """What a word is as a group, and the group's total, mean and equal value."""
     read = f"group_of {word(case['word'])}"
     if "fault" in case:
         return [f"{read} ≡ Err {group_fault(case['fault'])}"]
-    seen = group(case["word"])
+    seen = group(case["word"], case["count"])
     value = None if case["equal_value"] is None else byte_list(case["equal_value"])
     return [
         f"{read} ≡ Ok {seen}",
@@ -44,6 +56,7 @@ def groups(case):
 
 
 def splits(case):
+    """What is left of a group without a part."""
     left = f"minus {group(case['whole'])} {group(case['part'])}"
     if "fault" in case:
         return [f"{left} ≡ Err {split_fault(case['fault'])}"]
@@ -57,10 +70,11 @@ def burst_state(step):
     if step["step"] == "message":
         return f"(gave {byte_list(step['message'])})"
     name = step["why"].split()[0]
-    return f"(void_burst (burst_{name} {' '.join(map(str, told(step['why'])))}))"
+    return f"(void_burst (burst_{name} {places_of(step['why'])}))"
 
 
 def bursts(case):
+    """What the first one, two, .. words are, and the fragments of the message that they give."""
     steps = [burst_state(step) for step in case["steps"]]
     claims = [f"states_of {words(case['words'])} {len(steps)} ≡ {listing(steps)}"]
     last = case["steps"][-1]
@@ -70,7 +84,7 @@ def bursts(case):
 
 
 def asked(item):
-    """What was asked for before a word, or is asked for after it."""
+    """What the next word is asked for."""
     if item == "root":
         return "for_root"
     if item == "over":
@@ -86,13 +100,14 @@ def leaf(item):
 def epoch_fault(why):
     """The cause of a void word."""
     if why.startswith("uneven"):
-        return f"(uneven {' '.join(map(str, told(why)))})"
+        return f"(uneven {places_of(why)})"
     if "whole=" in why:
         return f"(no_part {split_fault(why)})"
     return f"(no_group {group_fault(why)})"
 
 
 def epochs(case):
+    """Word by word: what is asked before and after it, the leaves at it, the cause where it is void, whether all is over."""
     claims = []
     for k, step in enumerate(case["steps"]):
         before, now = words(case["words"][:k]), words(case["words"][: k + 1])
@@ -116,6 +131,7 @@ def phase(step):
 
 
 def stations(case):
+    """A station's places, plain words, log, sent entries and numbers of pending entries."""
     who, received = stream(case["stream"]), words([step["received"] for step in case["steps"]])
     rounds = len(case["steps"])
     return [
@@ -127,35 +143,21 @@ def stations(case):
     ]
 
 
-GROUPS = PRELUDE + (
-    "use Rattle.dc_protocol.specs.Groups.{Group, GroupFault, group_count, group_limb, SplitFault, split_count, split_limb, "
-    "group_of, total, mean, minus, equal_value}"
-)
-
-BURSTS = PRELUDE + """use Rattle.std.specs.List.{range_with_len}
-use Rattle.dc_protocol.specs.Bursts.{Burst, goes_on, gave, void_burst, BurstFault, burst_count, burst_limb, burst_length, burst_padding, burst_of, fragments}
-
+STATES = """
 -- what the first words are, after one word, two words, ..
 abbrev states_of : List (List ℕ) → ℕ → List Burst
 unfolding computing
 states_of words count = map (λ k. burst_of (take k words)) (range_with_len 1 count)
 """
 
-EPOCHS = GROUPS + """
-use Rattle.std.specs.Prelude.{true, false}
-use Rattle.dc_protocol.specs.Epochs.{Epoch, void_epoch, Leaf, EpochFault, no_group, no_part, uneven, Asked, for_root, for_at_most, for_nothing, epoch_of, leaves_at, asked, is_over}
-
+CAUSES = """
 -- why an epoch is void
 abbrev cause_of : Epoch → Option EpochFault
 cause_of (void_epoch leaves fault) = Some fault
 cause_of epoch = None
 """
 
-STATIONS = PRELUDE + """use Rattle.std.specs.List.{range_with_len}
-use Rattle.dc_protocol.specs.Net.{Entry, short, long, Stream}
-use Rattle.dc_protocol.specs.Cycles.{Place, at_reservation, in_burst, in_epoch, place_of}
-use Rattle.dc_protocol.specs.Stations.{log_of, sent_of, pending_counts, plain_word}
-
+PHASES = """
 -- what a place is for: nothing for a reservation, for an epoch nothing within, for a burst its field and which word of it
 abbrev phase_of : Place → Option (Option (ℕ × ℕ))
 phase_of at_reservation = None
@@ -164,9 +166,9 @@ phase_of (in_epoch words) = Some None
 """
 
 KINDS = {
-    "groups": Kind("groups", GROUPS, "computing", groups, 20),
-    "splits": Kind("splits", GROUPS, "computing", splits, 20),
-    "bursts": Kind("bursts", BURSTS, "computing states_of", bursts, 10),
-    "epochs": Kind("epochs", EPOCHS, "computing", epochs, 10),
-    "stations": Kind("stations", STATIONS, "computing", stations, 4),
+    "groups": Kind("groups", HOMES, "computing", groups, 20),
+    "splits": Kind("splits", HOMES, "computing", splits, 20),
+    "bursts": Kind("bursts", HOMES, "computing states_of", bursts, 10, STATES),
+    "epochs": Kind("epochs", HOMES, "computing", epochs, 10, CAUSES),
+    "stations": Kind("stations", HOMES, "computing", stations, 4, PHASES),
 }

@@ -1,0 +1,152 @@
+"""Kinds of sessions: frames, what a station sends and prints, what a hub sends, prints and writes."""
+
+from .file_kinds import pairs_of, stream_file, stream_parts
+from .kind import Kind, byte_list, key_pair, listing, numbers, record, text_codes, word, words
+
+# All definitions that these kinds use. `computing` opens every definition of one station.
+FRAMES = {
+    "dc_spec.specs.Words": "word_of",
+    "dc_spec.specs.Frames": "hello send all",
+    "dc_formats.specs.Frames": "frames_bytes",
+}
+STATIONS = {
+    **FRAMES,
+    "std.specs.Fmt": "digits",
+    "dc_station_rules.proofs.Computing": "computing",
+    "dc_station_rules.specs.Stations": "log_of sent_of pending_counts",
+    "dc_net_rules.specs.SessionTexts": "says",
+    "dc_run_texts.specs.Logs": "station_text",
+}
+HUBS = {
+    **FRAMES,
+    "dc_spec.specs.Recorded": "transcript_bytes superposed",
+    "dc_spec.specs.Text": "words_text",
+}
+HEADERS = {1: (6, "hello"), 2: (66, "send"), 3: (66, "all")}
+
+
+def frames_of(data):
+    """The whole frames that bytes begin with, as (kind, numbers, digits of the word), up to the first bytes that are no frame."""
+    frames, at = [], 0
+    while at + 3 <= len(data):
+        size, kind = HEADERS.get(data[at], (None, None))
+        body = data[at + 3 : at + 3 + (size or 0)]
+        if size != int.from_bytes(data[at + 1 : at + 3], "big") or len(body) < size:
+            break
+        if kind == "hello":
+            frames.append((kind, [int.from_bytes(body[i : i + 2], "big") for i in (0, 2, 4)], None))
+        else:
+            symbols = [int.from_bytes(body[i : i + 4], "big") for i in range(2, 66, 4)]
+            if max(symbols) > 65536:
+                break
+            frames.append((kind, [int.from_bytes(body[:2], "big")], "".join(f"{symbol:05x}" for symbol in symbols)))
+        at += 3 + size
+    return frames
+
+
+def frame(kind, item):
+    """A frame as a term."""
+    if kind == "hello":
+        return f"hello {' '.join(map(str, item))}"
+    return f"{kind} {item[0]} {word(item[1])}"
+
+
+def frames(case):
+    """The frames that the bytes begin with, written."""
+    read = [(kind, one[kind]) for one in case["frames"] for kind in ["hello", "send", "all"] if kind in one]
+    if not read:
+        return None
+    size = sum(9 if kind == "hello" else 69 for kind, _ in read)
+    return [f"frames_bytes {listing([frame(kind, item) for kind, item in read])} ≡ {byte_list(case['bytes'][: 2 * size])}"]
+
+
+def words_in_order(data, kind):
+    """The words of the frames of this kind for the rounds 0, 1, .. that bytes begin with."""
+    found = []
+    for name, fields, digits in frames_of(data):
+        if name != kind or fields != [len(found)]:
+            break
+        found.append(digits)
+    return found
+
+
+def sent_claim(frames_term, digits, whole):
+    """That the bytes of these frames, or their beginning, were sent."""
+    sent = byte_list(digits)
+    return f"{frames_term} ≡ {sent}" if whole else f"take {len(digits) // 2} ({frames_term}) ≡ {sent}"
+
+
+def has_session(case):
+    """Whether a station got as far as its session."""
+    return case["status"] in (0, 9, 10, 11) and case["keys"][6:8] == "01"
+
+
+def station_sessions(case):
+    """What a station sent, and what it printed: all of it, or a beginning where the wire or the output failed."""
+    if not has_session(case):
+        return None
+    keys, who = bytes.fromhex(case["keys"]), stream_file(bytes.fromhex(case["stream"]))
+    stations, rounds = int.from_bytes(keys[4:6], "big"), int.from_bytes(keys[6:8], "big")
+    received = words(words_in_order(bytes.fromhex(case["peer"]), "all")[:rounds])
+    pairs = listing([key_pair(one) for one in pairs_of(keys)])
+    said = f"frames_bytes (says {case['station']} {stations} {rounds} {pairs} {who} {received})"
+    claims = [sent_claim(said, case["sent"], case["status"] != 10)]
+    if case["status"] in (0, 9):
+        text = f"station_text {case['station']} (log_of {received}) (sent_of {who} {received}) (pending_counts {who} {received})"
+        claims.append(sent_claim(text, case["printed"].encode().hex(), case["status"] == 0))
+    return claims
+
+
+def session_words(case):
+    """The words of each peer's `send` frames in order, by round and station. Peers past the number of stations are not asked."""
+    peers = {}
+    for one in case["peers"][: case["stations"]]:
+        data = bytes.fromhex(one)
+        station = int.from_bytes(data[3:5], "big")
+        peers[station] = words_in_order(data[9:], "send")[: case["words"]]
+    return [[peers[station][round] for station in range(case["stations"])] for round in range(case["words"])]
+
+
+def hub_sessions(case):
+    """What a hub sent to each peer, printed and wrote in a session that was done or whose output failed."""
+    if case["status"] not in (0, 9):
+        return None
+    if any(case["sent"][case["stations"] :]):
+        raise ValueError("something was sent to a peer that is no station")
+    rounds = session_words(case)
+    published = words([digits for one in rounds for digits in one])
+    session = record(stations=case["stations"], rounds=case["words"], words=published)
+    sums = [sum_word(one) for one in rounds]
+    broadcasts = listing([frame("all", (number, digits)) for number, digits in enumerate(sums)])
+    claims = [f"superposed {session} ≡ {words(sums)}"]
+    claims += [f"frames_bytes {broadcasts} ≡ {byte_list(sent)}" for sent in case["sent"][: case["stations"]]]
+    if case["out"] is not None:
+        claims.append(f"transcript_bytes {session} ≡ {byte_list(case['out'])}")
+    claims.append(sent_claim(f"words_text (superposed {session})", case["printed"].encode().hex(), case["status"] == 0))
+    return claims
+
+
+def sum_word(published):
+    """The sum of words in digits."""
+    return "".join(f"{sum(int(digits[at : at + 5], 16) for digits in published) % 65537:05x}" for at in range(0, 80, 5))
+
+
+def unchecked_station(case):
+    """What of a station's session is not checked."""
+    if not has_session(case):
+        return "agreement of files, and key files of version 2, are not defined yet"
+    return "how a session is refused is not defined yet" if case["status"] else None
+
+
+# what of a line no kind here checks
+UNCHECKED = {
+    "frames": lambda case: "reading frames is not defined yet",
+    "station_sessions": unchecked_station,
+    "hub_sessions": lambda case: "how a session is refused is not defined yet" if case["status"] else None,
+}
+
+KINDS = {
+    "frames": Kind("frames", FRAMES, "word_of", frames, 50),
+    "station_sessions": Kind("station_sessions", STATIONS, "computing digits", station_sessions, 10),
+    "hub_sessions": Kind("hub_sessions", HUBS, "word_of", hub_sessions, 10),
+}
