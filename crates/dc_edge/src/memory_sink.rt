@@ -22,14 +22,14 @@ pub struct MemorySink {
 }
 
 impl Model for MemorySink {
-    ghost use Rattle.std.specs.Prelude.{◌≤◌, vec_len, vec_capacity};
+    ghost use Rattle.std.specs.Prelude.{◌≡◌, ◌≤◌, vec_len, vec_capacity};
     ghost use Rattle.dc_edge.specs.SinkBook.{SinkBook};
 
     ghost Value = { SinkBook };
 
     ghost view = { λ s. record { written = s.held.items; room = s.room; fails = s.failing.items; calls = s.call; faults = s.fault_count } };
 
-    ghost invariant = { λ s. (vec_len s.held ≤ s.room) × (s.room ≤ vec_capacity s.held) };
+    ghost invariant = { λ s. (vec_len s.held ≤ s.room) × (vec_capacity s.held ≡ s.room) };
 }
 
 impl MemorySink {
@@ -60,7 +60,7 @@ impl MemorySink {
 impl Sink for MemorySink {
     ghost state = { sink_state };
 
-    /// Takes no memory.
+    /// Takes no memory: the room that `new` took is all that the sink ever has.
     fn put(&mut self, bytes: &[u8]) -> Result<(), Failed>
         ensures exact { (self.new, is_ok result) ≡ put_of self.old bytes.now }
         ensures puts { Puts bytes.now (sink_state self.old) (sink_state self.new) result }
@@ -83,12 +83,14 @@ impl Sink for MemorySink {
     }
 }
 
-// Appends within the room that was taken, so that no memory is wanted.
+// Appends within the room that was taken.
 fn append(held: &mut Vec<u8>, bytes: &[u8])
     requires { vec_len held.old + length bytes.now ≤ vec_capacity held.old }
     ensures items { held.new.items ≡ held.old.items ++ bytes.now }
     ensures len { vec_len held.new ≡ vec_len held.old + length bytes.now }
-    ensures capacity { vec_capacity held.old ≤ vec_capacity held.new }
+    ensures capacity { vec_capacity held.new ≡ vec_capacity held.old }
 {
-    let _ = held.extend_from_slice(bytes);
+    for byte in bytes {
+        held.push_reserved(*byte);
+    }
 }

@@ -5,7 +5,7 @@ ghost use Rattle.dc_spec.specs.Words.{IsWord, word_of, zero_word, word_add, word
 ghost use Rattle.dc_field.specs.WordInBytes.{word_of_numbers};
 
 use crate::sym::Sym;
-use crate::word_in_bytes::SymFault;
+use crate::word_from_bytes::SymFault;
 use std::marker::Model;
 
 /// Sixteen symbols, seen by contracts as the list of their numbers.

@@ -8,7 +8,7 @@ use Rattle.std.proofs.lemmas.List.Quantifiers.{position-Some}
 use Rattle.dc_spec.specs.Words.{AreWords}
 use Rattle.dc_spec.specs.Bytes.{number_at, word_at}
 use Rattle.dc_spec.proofs.WordLemmas.{word_of-same, length-word_of, symbol-word_of, IsWord-word_of}
-use Rattle.dc_field.specs.declared.word_in_bytes.SymFault.{SymFault}
+use Rattle.dc_field.specs.declared.word_from_bytes.SymFault.{SymFault}
 use Rattle.dc_field.specs.WordInBytes.{judged as word_judged, word_of_bytes}
 use Rattle.dc_field.proofs.FirstAbove.{small_where_none, none_where_small, first_is}
 use Rattle.dc_superpose.specs.declared.fault.TranscriptFault.TheVariants.{Symbol}
