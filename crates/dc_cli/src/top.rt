@@ -1,11 +1,9 @@
 //! The top call.
 
-ghost use Rattle.dc_edge.specs.Sink.{Puts};
 ghost use Rattle.dc_cli.specs.Forms.{texts};
-ghost use Rattle.dc_cli.specs.Lines.{fault_line};
-ghost use Rattle.dc_cli.specs.Commands.{asked};
-ghost use Rattle.dc_cli.specs.Promises.{call_of, RefusesOtherWords, PrintsSums, Completes, AsksInOrder, TellsTheLast, KeepsFiles, PrintsOnlyWhenDone, MissesTheAbsent, RefusesTheLong, RefusesTheMalformed, TellsTheFault, HasCauses};
-ghost use Rattle.dc_cli.specs.Ran.{Ran, CommandRan, Told};
+ghost use Rattle.dc_cli.specs.Commands.{task_of};
+ghost use Rattle.dc_cli.specs.Promises.{call, RefusesOtherWords, PrintsSums, Completes, AsksInOrder, TellsTheLast, KeepsFiles, PrintsOnlyWhenDone, MissesTheAbsent, RefusesTheLong, RefusesTheMalformed, TellsTheFault, HasCauses};
+ghost use Rattle.dc_cli.specs.Ran.{Ran, CommandRan, PutsLine};
 
 use crate::command::{Command, command_of};
 use crate::fault_line::put_fault;
@@ -27,31 +25,19 @@ pub fn dcnet<R: Threads + Sync, F: Shelf, K: Sink, E: Sink, G: Gate + Sync>(
     gate: &G,
 ) -> Outcome
     ensures ran { Ran (texts words.now) (F.state shelf.old) (F.state shelf.new) (K.state out.old) (K.state out.new) result }
-    ensures err { Told result (E.state err.old) (E.state err.new) }
-    ensures words { RefusesOtherWords
-        (call_of (texts words.now) (F.state shelf.old) (F.state shelf.new) (K.state out.old) (K.state out.new) result) }
-    ensures sums { PrintsSums
-        (call_of (texts words.now) (F.state shelf.old) (F.state shelf.new) (K.state out.old) (K.state out.new) result) }
-    ensures complete { Completes
-        (call_of (texts words.now) (F.state shelf.old) (F.state shelf.new) (K.state out.old) (K.state out.new) result) }
-    ensures asked { AsksInOrder
-        (call_of (texts words.now) (F.state shelf.old) (F.state shelf.new) (K.state out.old) (K.state out.new) result) }
-    ensures last { TellsTheLast
-        (call_of (texts words.now) (F.state shelf.old) (F.state shelf.new) (K.state out.old) (K.state out.new) result) }
-    ensures kept { KeepsFiles
-        (call_of (texts words.now) (F.state shelf.old) (F.state shelf.new) (K.state out.old) (K.state out.new) result) }
-    ensures silent { PrintsOnlyWhenDone
-        (call_of (texts words.now) (F.state shelf.old) (F.state shelf.new) (K.state out.old) (K.state out.new) result) }
-    ensures missing { MissesTheAbsent
-        (call_of (texts words.now) (F.state shelf.old) (F.state shelf.new) (K.state out.old) (K.state out.new) result) }
-    ensures too_long { RefusesTheLong
-        (call_of (texts words.now) (F.state shelf.old) (F.state shelf.new) (K.state out.old) (K.state out.new) result) }
-    ensures malformed { RefusesTheMalformed
-        (call_of (texts words.now) (F.state shelf.old) (F.state shelf.new) (K.state out.old) (K.state out.new) result) }
-    ensures fault { TellsTheFault
-        (call_of (texts words.now) (F.state shelf.old) (F.state shelf.new) (K.state out.old) (K.state out.new) result) }
-    ensures causes { HasCauses
-        (call_of (texts words.now) (F.state shelf.old) (F.state shelf.new) (K.state out.old) (K.state out.new) result) }
+    ensures err { PutsLine result (E.state err.old) (E.state err.new) }
+    ensures words { RefusesOtherWords (call F.state K.state words.now shelf.old shelf.new out.old out.new result) }
+    ensures sums { PrintsSums (call F.state K.state words.now shelf.old shelf.new out.old out.new result) }
+    ensures complete { Completes (call F.state K.state words.now shelf.old shelf.new out.old out.new result) }
+    ensures asked { AsksInOrder (call F.state K.state words.now shelf.old shelf.new out.old out.new result) }
+    ensures last { TellsTheLast (call F.state K.state words.now shelf.old shelf.new out.old out.new result) }
+    ensures kept { KeepsFiles (call F.state K.state words.now shelf.old shelf.new out.old out.new result) }
+    ensures silent { PrintsOnlyWhenDone (call F.state K.state words.now shelf.old shelf.new out.old out.new result) }
+    ensures missing { MissesTheAbsent (call F.state K.state words.now shelf.old shelf.new out.old out.new result) }
+    ensures too_long { RefusesTheLong (call F.state K.state words.now shelf.old shelf.new out.old out.new result) }
+    ensures malformed { RefusesTheMalformed (call F.state K.state words.now shelf.old shelf.new out.old out.new result) }
+    ensures fault { TellsTheFault (call F.state K.state words.now shelf.old shelf.new out.old out.new result) }
+    ensures causes { HasCauses (call F.state K.state words.now shelf.old shelf.new out.old out.new result) }
 {
     let outcome = run(alloc, words, shelf, out);
     let _ = put_fault(&outcome, err);
@@ -74,7 +60,7 @@ fn run_command<F: Shelf, K: Sink>(
     shelf: &mut F,
     out: &mut K,
 ) -> Outcome
-    ensures { CommandRan (asked command.entry) (F.state shelf.old) (F.state shelf.new) (K.state out.old) (K.state out.new) result }
+    ensures { CommandRan (task_of command.entry) (F.state shelf.old) (F.state shelf.new) (K.state out.old) (K.state out.new) result }
 {
     match command {
         Command::Sum { file } => run_sum(alloc, file, shelf, out),

@@ -1,6 +1,6 @@
 use Rattle.std.proofs.Common.{rules}
 use Rattle.dc_cli.proofs.PutLemmas.{Puts-then, Puts-stops}
-use Rattle.dc_cli.proofs.fault_line.put_told.Goals as goal
+use Rattle.dc_cli.proofs.fault_line.put_outcome_text.Goals as goal
 
 pub returns-in-Usage : goal.returns-in-Usage
 returns-in-Usage g c = rw (c.in-Usage.is, ← c.from.ensures) c.put_number.ensures
