@@ -13,7 +13,7 @@ use dc_edge::{Gate, Shelf, Sink};
 use std::alloc::Global;
 use std::thread::Threads;
 
-/// Runs the command that the words spell, over a shelf of files, and puts its text on `out` and its fault line on
+/// Runs the command that the words spell, over a shelf of files. It puts the command's text on `out` and its fault line on
 /// `err`. The words are the command line without the program's name.
 pub fn dcnet<R: Threads + Sync, F: Shelf, K: Sink, E: Sink, G: Gate + Sync>(
     rt: &R,
@@ -26,18 +26,30 @@ pub fn dcnet<R: Threads + Sync, F: Shelf, K: Sink, E: Sink, G: Gate + Sync>(
 ) -> Outcome
     ensures ran { Ran (texts words.now) (F.state shelf.old) (F.state shelf.new) (K.state out.old) (K.state out.new) result }
     ensures err { PutsLine result (E.state err.old) (E.state err.new) }
-    ensures words { RefusesOtherWords (call F.state K.state words.now shelf.old shelf.new out.old out.new result) }
-    ensures sums { PrintsSums (call F.state K.state words.now shelf.old shelf.new out.old out.new result) }
-    ensures complete { Completes (call F.state K.state words.now shelf.old shelf.new out.old out.new result) }
-    ensures asked { AsksInOrder (call F.state K.state words.now shelf.old shelf.new out.old out.new result) }
-    ensures last { TellsTheLast (call F.state K.state words.now shelf.old shelf.new out.old out.new result) }
-    ensures kept { KeepsFiles (call F.state K.state words.now shelf.old shelf.new out.old out.new result) }
-    ensures silent { PrintsOnlyWhenDone (call F.state K.state words.now shelf.old shelf.new out.old out.new result) }
-    ensures missing { MissesTheAbsent (call F.state K.state words.now shelf.old shelf.new out.old out.new result) }
-    ensures too_long { RefusesTheLong (call F.state K.state words.now shelf.old shelf.new out.old out.new result) }
-    ensures malformed { RefusesTheMalformed (call F.state K.state words.now shelf.old shelf.new out.old out.new result) }
-    ensures fault { TellsTheFault (call F.state K.state words.now shelf.old shelf.new out.old out.new result) }
-    ensures causes { HasCauses (call F.state K.state words.now shelf.old shelf.new out.old out.new result) }
+    ensures words { RefusesOtherWords
+        (call F.state K.state words.now shelf.old shelf.new out.old out.new result) }
+    ensures sums { PrintsSums
+        (call F.state K.state words.now shelf.old shelf.new out.old out.new result) }
+    ensures complete { Completes
+        (call F.state K.state words.now shelf.old shelf.new out.old out.new result) }
+    ensures asked { AsksInOrder
+        (call F.state K.state words.now shelf.old shelf.new out.old out.new result) }
+    ensures last { TellsTheLast
+        (call F.state K.state words.now shelf.old shelf.new out.old out.new result) }
+    ensures kept { KeepsFiles
+        (call F.state K.state words.now shelf.old shelf.new out.old out.new result) }
+    ensures silent { PrintsOnlyWhenDone
+        (call F.state K.state words.now shelf.old shelf.new out.old out.new result) }
+    ensures missing { MissesTheAbsent
+        (call F.state K.state words.now shelf.old shelf.new out.old out.new result) }
+    ensures too_long { RefusesTheLong
+        (call F.state K.state words.now shelf.old shelf.new out.old out.new result) }
+    ensures malformed { RefusesTheMalformed
+        (call F.state K.state words.now shelf.old shelf.new out.old out.new result) }
+    ensures fault { TellsTheFault
+        (call F.state K.state words.now shelf.old shelf.new out.old out.new result) }
+    ensures causes { HasCauses
+        (call F.state K.state words.now shelf.old shelf.new out.old out.new result) }
 {
     let outcome = run(alloc, words, shelf, out);
     let _ = put_fault(&outcome, err);

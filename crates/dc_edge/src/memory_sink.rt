@@ -10,7 +10,7 @@ use dc_field::NoMemory;
 use std::alloc::Global;
 use std::marker::Model;
 
-/// A sink that keeps what it is given, up to a room in bytes, and that fails at chosen calls.
+/// A sink that keeps the bytes that it is given, up to a room, and that fails at chosen calls.
 /// Calls on pieces that are not empty are numbered from 0; the number stays at 2^32 - 1 once there.
 #[derive(Drop)]
 pub struct MemorySink {
@@ -33,7 +33,7 @@ impl Model for MemorySink {
 }
 
 impl MemorySink {
-    /// An empty sink with room for `room` bytes. Its calls whose numbers stand in `fails` fail.
+    /// An empty sink with room for `room` bytes. Its calls whose numbers are in `fails` fail.
     pub fn new(alloc: Global, room: u32, fails: &[u32]) -> Result<MemorySink, NoMemory>
         ensures { IfOk result (λ s. s ≡ record { written = []; room = room; fails = fails.now; calls = 0; faults = 0 }) }
     {
@@ -49,7 +49,7 @@ impl MemorySink {
         })
     }
 
-    /// What was put so far.
+    /// All bytes that were put so far.
     pub fn bytes(&self) -> &[u8]
         ensures { result.now ≡ self.now.written }
     {

@@ -1,4 +1,4 @@
-//! Words in text.
+//! Words written as text.
 
 ghost use Rattle.std.specs.Prelude.{◌≡◌, ◌+◌, ◌<◌, ◌≤◌, ◌++◌, take, drop};
 ghost use Rattle.dc_spec.specs.Text.{word_text as text_of, symbol_text, hex_digit as digit_char};

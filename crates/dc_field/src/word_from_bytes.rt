@@ -1,4 +1,4 @@
-//! Words in bytes.
+//! Words read from bytes.
 
 ghost use Rattle.std.specs.Prelude.{◌≡◌, length, IfOk};
 ghost use Rattle.dc_spec.specs.Bytes.{word_bytes};
@@ -11,7 +11,7 @@ use crate::word::Word;
 pub struct SymFault {
     /// Which of the sixteen, from 0.
     pub symbol: u8,
-    /// The number that stands there.
+    /// The number that is there.
     pub seen: u32,
 }
 

@@ -7,7 +7,7 @@ ghost use Rattle.dc_field.specs.WordInText.{count_of, digit_in, numbers_of, symb
 
 use crate::word::Word;
 
-/// The first thing that shows that a text is no word.
+/// The first fault of a text that is not a word.
 #[derive(Clone, Copy, Debug, PartialEq, Eq)]
 pub enum WordFault {
     /// There are not eighty characters.
@@ -15,7 +15,7 @@ pub enum WordFault {
         /// How many there are.
         seen: u64,
     },
-    /// A character is no lower-case hexadecimal digit.
+    /// A character is not a lower-case hexadecimal digit.
     Digit {
         /// Which of the eighty, from 0.
         place: u8,
@@ -24,7 +24,7 @@ pub enum WordFault {
     Symbol {
         /// Which of the sixteen, from 0.
         symbol: u8,
-        /// The number that stands there.
+        /// The number that is there.
         seen: u32,
     },
 }
@@ -63,7 +63,7 @@ fn read_text(b: &[u8]) -> Result<Word, WordFault>
     }
 }
 
-/// What each of eighty characters counts.
+/// The digits of eighty characters, as numbers.
 fn digits_of(b: &[u8]) -> [u8; 80]
     requires { length b.now ≡ 80 }
     ensures { result ≡ map count_of b.now }
@@ -75,7 +75,7 @@ fn digits_of(b: &[u8]) -> [u8; 80]
     digits
 }
 
-/// What a lower-case hexadecimal digit counts, and 16 for any other character.
+/// A lower-case hexadecimal digit as a number, and 16 for any other character.
 fn count_of(c: u8) -> u8
     ensures { result ≡ count_of c }
 {
@@ -86,7 +86,7 @@ fn count_of(c: u8) -> u8
     }
 }
 
-/// The first character that is no digit. It is looked for only where there is one.
+/// The place of the first character that is not a digit. All are read again only where there is one.
 fn first_no_digit(b: &[u8], digits: &[u8; 80]) -> Option<usize>
     requires { digits.now ≡ map count_of b.now }
     ensures { result ≡ position (λ c. is_none (digit_in c)) b.now }
@@ -97,7 +97,7 @@ fn first_no_digit(b: &[u8], digits: &[u8; 80]) -> Option<usize>
     b.iter().position(|c| count_of(*c) == 16)
 }
 
-/// The greatest of the counts.
+/// The greatest of the numbers.
 fn greatest(digits: &[u8; 80]) -> u8
     ensures { All (λ d. d ≤ result) digits.now }
 {
