@@ -3,3 +3,4 @@ pub mod PrintLemmas
 pub mod CommandLemmas
 pub mod RanLemmas
 pub mod PromiseLemmas
+mod Rows

@@ -3,16 +3,18 @@ use Rattle.std.proofs.Common.{◌++◌, ◌≡◌, ◌≤◌, ◌⊎◌, ℕ, Bo
 use Rattle.std.specs.Prelude.{IsTrue}
 use Rattle.std.proofs.lemmas.List.{append-nil}
 use Rattle.dc_spec.specs.Outside.{ShelfState, SinkState, Holding, absent, held, Rose, Tells, grown, IsFront}
+use Rattle.dc_spec.specs.Limits.{transcript_limit}
 use Rattle.dc_spec.specs.Recorded.{Recorded, IsRecorded, transcript_bytes, superposed}
 use Rattle.dc_spec.specs.Text.{words_text}
+use Rattle.dc_formats.proofs.Sizes.{transcript_size}
 use Rattle.dc_edge.specs.Shelf.{IsHeldAbove, FailsUntold}
 use Rattle.dc_superpose.specs.Reading.{transcript_of}
 use Rattle.dc_superpose.specs.declared.fault.TranscriptFault.{TranscriptFault}
 use Rattle.dc_cli.specs.Forms.{is_name, is_form, longest_begun}
-use Rattle.dc_cli.specs.Commands.{Asked, sum, Spells}
-use Rattle.dc_cli.specs.Summing.{transcript_limit, SummedFile, SumRan, Refused}
+use Rattle.dc_cli.specs.Commands.{Task, sum, Spells}
+use Rattle.dc_cli.specs.Summing.{SummedFile, SumRan, Refused}
 use Rattle.dc_cli.specs.Ran.{Ran, RanCommand, CommandRan}
-use Rattle.dc_cli.specs.Promises.{Call, AsksFor, RefusesOtherWords, Keeps, KeepsFiles, AsksInOrder, PrintsOnlyWhenDone, PrintsSums, HasLimit, TellsName, TellsTheLast, MissesTheAbsent, RefusesTheLong, TellsTheFault, RefusesTheMalformed, HasCauses, Completes}
+use Rattle.dc_cli.specs.Promises.{Call, AsksFor, RefusesOtherWords, Leaves, KeepsFiles, AsksInOrder, PrintsOnlyWhenDone, PrintsSums, HasLimit, TellsName, TellsTheLast, MissesTheAbsent, RefusesTheLong, TellsTheFault, RefusesTheMalformed, HasCauses, Completes}
 use Rattle.dc_cli.specs.declared.outcome.Outcome.{Outcome}
 use Rattle.dc_cli.specs.declared.outcome.Outcome.TheVariants.{Done, Usage, Missing, TooLong, Malformed, ShelfFault, SinkFault, NoMemory}
 use Rattle.dc_cli.specs.declared.outcome.FileFault.TheVariants.{Transcript}
@@ -23,10 +25,10 @@ name_is true h = refl
 name_is false h = h
 
 -- the words of a command are a form
-Spells-form : (words : List (List ℕ)) (command : Asked) → Spells words command → is_form words ≡ true
+Spells-form : (words : List (List ℕ)) (command : Task) → Spells words command → is_form words ≡ true
 Spells-form words (sum file) p = let named : is_name file ≡ true = name_is (is_name file) p.1 in rw (p.0, named) refl
 
-not_both : (words : List (List ℕ)) (command : Asked) → Spells words command → is_form words ≡ false → ⊥
+not_both : (words : List (List ℕ)) (command : Task) → Spells words command → is_form words ≡ false → ⊥
 not_both words command p refused = let is = Spells-form words command p in absurd cc
 
 -- the words of `sum` name one file
@@ -95,25 +97,25 @@ SumRan-asked file s s' o o' other p = SummedFile-asked file s s' (Err other) p.1
 sum_ran : (words : List (List ℕ)) (file : List ℕ) (s s' : ShelfState) (o o' : SinkState) (outcome : Outcome) → Spells words (sum file) → RanCommand words s s' o o' outcome → SumRan file s s' o o' outcome
 sum_ran words file s s' o o' outcome p ran = ran_as words file s s' o o' outcome ran.command p ran.spelled ran.ran
   where
-    ran_as : (words : List (List ℕ)) (file : List ℕ) (s s' : ShelfState) (o o' : SinkState) (outcome : Outcome) (command : Asked) → Spells words (sum file) → Spells words command → CommandRan command s s' o o' outcome → SumRan file s s' o o' outcome
+    ran_as : (words : List (List ℕ)) (file : List ℕ) (s s' : ShelfState) (o o' : SinkState) (outcome : Outcome) (command : Task) → Spells words (sum file) → Spells words command → CommandRan command s s' o o' outcome → SumRan file s s' o o' outcome
     ran_as words file s s' o o' outcome (sum other) p q r = let e = same_file words file other p q in rw e r
 
 sum_ran_of : (words : List (List ℕ)) (file : List ℕ) (s s' : ShelfState) (o o' : SinkState) (outcome : Outcome) → Spells words (sum file) → Ran words s s' o o' outcome → SumRan file s s' o o' outcome
 sum_ran_of words file s s' o o' (Usage place) p ran = absurd (not_both words (sum file) p ran.no_form)
 sum_ran_of words file s s' o o' other p ran = sum_ran words file s s' o o' other p ran
 
-keeps_files : (words : List (List ℕ)) (command : Asked) (s s' : ShelfState) (o o' : SinkState) (outcome : Outcome) → Spells words command → Ran words s s' o o' outcome → Keeps command s s'
+keeps_files : (words : List (List ℕ)) (command : Task) (s s' : ShelfState) (o o' : SinkState) (outcome : Outcome) → Spells words command → Ran words s s' o o' outcome → Leaves command s s'
 keeps_files words (sum file) s s' o o' outcome p ran = SumRan-kept file s s' o o' outcome (sum_ran_of words file s s' o o' outcome p ran)
 
 kept_unread : (words : List (List ℕ)) (s s' : ShelfState) (o o' : SinkState) (outcome : Outcome) → is_form words ≡ false → Ran words s s' o o' outcome → s'.holds ≡ s.holds
 kept_unread words s s' o o' (Usage place) refused ran = ap (λ (x : ShelfState). x.holds) ran.shelf_stays
 kept_unread words s s' o o' _ refused ran = absurd (not_both words ran.command ran.spelled refused)
 
-asked_front : (words : List (List ℕ)) (command : Asked) (s s' : ShelfState) (o o' : SinkState) (outcome : Outcome) → Spells words command → Ran words s s' o o' outcome
+asked_front : (words : List (List ℕ)) (command : Task) (s s' : ShelfState) (o o' : SinkState) (outcome : Outcome) → Spells words command → Ran words s s' o o' outcome
     → (files : List (List ℕ)) × AsksFor s command files × ((names : List (List ℕ)) × IsFront names files × (s'.asked ≡ grown s.asked names))
 asked_front words (sum file) s s' o o' outcome p ran = (file ∷ [], refl, SumRan-asked file s s' o o' outcome (sum_ran_of words file s s' o o' outcome p ran))
 
-asked_all : (words : List (List ℕ)) (command : Asked) (s s' : ShelfState) (o o' : SinkState) (outcome : Outcome) → Spells words command → outcome ≡ Done → Ran words s s' o o' outcome
+asked_all : (words : List (List ℕ)) (command : Task) (s s' : ShelfState) (o o' : SinkState) (outcome : Outcome) → Spells words command → outcome ≡ Done → Ran words s s' o o' outcome
     → (files : List (List ℕ)) × AsksFor s command files × (s'.asked ≡ grown s.asked files)
 asked_all words (sum file) s s' o o' outcome p e ran =
     let done : SumRan file s s' o o' Done = let P : Outcome → Type 0 = λ x. SumRan file s s' o o' x in subst P e (sum_ran_of words file s s' o o' outcome p ran) in
@@ -129,7 +131,7 @@ SumRan-silent file s s' o o' Done not_done not_sink p = absurd (not_done refl)
 SumRan-silent file s s' o o' SinkFault not_done not_sink p = absurd (not_sink refl)
 SumRan-silent file s s' o o' other not_done not_sink p = p.0
 
-CommandRan-silent : (command : Asked) (s s' : ShelfState) (o o' : SinkState) (outcome : Outcome) → (outcome ≡ Done → ⊥) → (outcome ≡ SinkFault → ⊥) → CommandRan command s s' o o' outcome → o' ≡ o
+CommandRan-silent : (command : Task) (s s' : ShelfState) (o o' : SinkState) (outcome : Outcome) → (outcome ≡ Done → ⊥) → (outcome ≡ SinkFault → ⊥) → CommandRan command s s' o o' outcome → o' ≡ o
 CommandRan-silent (sum file) s s' o o' outcome not_done not_sink p = SumRan-silent file s s' o o' outcome not_done not_sink p
 
 silent : (words : List (List ℕ)) (s s' : ShelfState) (o o' : SinkState) (outcome : Outcome) → (outcome ≡ Done → ⊥) → (outcome ≡ SinkFault → ⊥) → Ran words s s' o o' outcome → o' ≡ o
@@ -146,7 +148,7 @@ done_prints file bytes s s' o o' told p =
 done_as : (file : List ℕ) (s s' : ShelfState) (o o' : SinkState) (outcome : Outcome) → outcome ≡ Done → SumRan file s s' o o' outcome → SumRan file s s' o o' Done
 done_as file s s' o o' outcome e p = let P : Outcome → Type 0 = λ x. SumRan file s s' o o' x in subst P e p
 
-missing_cause : (command : Asked) (s s' : ShelfState) (o o' : SinkState) (name : List ℕ) → CommandRan command s s' o o' (Missing name) → (s.holds name ≡ absent) ⊎ FailsUntold (s.holds name) s.faults s'.faults
+missing_cause : (command : Task) (s s' : ShelfState) (o o' : SinkState) (name : List ℕ) → CommandRan command s s' o o' (Missing name) → (s.holds name ≡ absent) ⊎ FailsUntold (s.holds name) s.faults s'.faults
 missing_cause (sum file) s s' o o' name ran = rw ran.1.0 ran.1.1.answer
 
 missing : (words : List (List ℕ)) (s s' : ShelfState) (o o' : SinkState) (outcome : Outcome) (name : List ℕ) → outcome ≡ Missing name → Ran words s s' o o' outcome → (s.holds name ≡ absent) ⊎ FailsUntold (s.holds name) s.faults s'.faults
@@ -155,14 +157,14 @@ missing words s s' o o' outcome name e ran =
     let r : Ran words s s' o o' (Missing name) = subst P e ran in
     missing_cause r.command s s' o o' name r.ran
 
-too_long : (words : List (List ℕ)) (command : Asked) (s s' : ShelfState) (o o' : SinkState) (outcome : Outcome) (name : List ℕ) → Spells words command → outcome ≡ TooLong name → Ran words s s' o o' outcome
+too_long : (words : List (List ℕ)) (command : Task) (s s' : ShelfState) (o o' : SinkState) (outcome : Outcome) (name : List ℕ) → Spells words command → outcome ≡ TooLong name → Ran words s s' o o' outcome
     → (limit : ℕ) × HasLimit s command name limit × (IsHeldAbove (s.holds name) limit ⊎ FailsUntold (s.holds name) s.faults s'.faults)
 too_long words (sum file) s s' o o' outcome name p e ran =
     let P : Outcome → Type 0 = λ x. SumRan file s s' o o' x in
     let r : SumRan file s s' o o' (TooLong name) = subst P e (sum_ran_of words file s s' o o' outcome p ran) in
     (transcript_limit, (r.1.0, refl), rw r.1.0 r.1.1.answer)
 
-fault_cause : (command : Asked) (s s' : ShelfState) (o o' : SinkState) (name bytes : List ℕ) (fault : TranscriptFault) → s.holds name ≡ held bytes → CommandRan command s s' o o' (Malformed name (Transcript fault)) → Refused bytes fault
+fault_cause : (command : Task) (s s' : ShelfState) (o o' : SinkState) (name bytes : List ℕ) (fault : TranscriptFault) → s.holds name ≡ held bytes → CommandRan command s s' o o' (Malformed name (Transcript fault)) → Refused bytes fault
 fault_cause (sum file) s s' o o' name bytes fault told ran =
     let told_file : s.holds file ≡ held bytes = ap s.holds (sym ran.1.0) ∙ told in
     let same : ran.1.1.bytes ≡ bytes = told_bytes (s.holds file) bytes ran.1.1.bytes told_file ran.1.1.read.answer.1 in
@@ -192,17 +194,17 @@ SumRan-last file s s' o o' ShelfFault name tells p = elim tells [ inl e ↦ absu
 SumRan-last file s s' o o' SinkFault name tells p = elim tells [ inl e ↦ absurd cc | inr other ↦ elim other [ inl e ↦ absurd cc | inr m ↦ let e = m.1 in absurd cc ] ]
 SumRan-last file s s' o o' NoMemory name tells p = elim tells [ inl e ↦ absurd cc | inr other ↦ elim other [ inl e ↦ absurd cc | inr m ↦ let e = m.1 in absurd cc ] ]
 
-CommandRan-last : (command : Asked) (s s' : ShelfState) (o o' : SinkState) (outcome : Outcome) (name : List ℕ) → TellsName outcome name → CommandRan command s s' o o' outcome → LastAsked name s s'
+CommandRan-last : (command : Task) (s s' : ShelfState) (o o' : SinkState) (outcome : Outcome) (name : List ℕ) → TellsName outcome name → CommandRan command s s' o o' outcome → LastAsked name s s'
 CommandRan-last (sum file) s s' o o' outcome name tells p = SumRan-last file s s' o o' outcome name tells p
 
 last_asked : (words : List (List ℕ)) (s s' : ShelfState) (o o' : SinkState) (outcome : Outcome) (name : List ℕ) → TellsName outcome name → Ran words s s' o o' outcome → LastAsked name s s'
 last_asked words s s' o o' (Usage place) name tells ran = elim tells [ inl e ↦ absurd cc | inr other ↦ elim other [ inl e ↦ absurd cc | inr m ↦ let e = m.1 in absurd cc ] ]
 last_asked words s s' o o' other name tells ran = CommandRan-last ran.command s s' o o' other name tells ran.ran
 
-shelf_rose : (command : Asked) (s s' : ShelfState) (o o' : SinkState) → CommandRan command s s' o o' ShelfFault → Rose s.faults s'.faults
+shelf_rose : (command : Task) (s s' : ShelfState) (o o' : SinkState) → CommandRan command s s' o o' ShelfFault → Rose s.faults s'.faults
 shelf_rose (sum file) s s' o o' ran = ran.1.answer
 
-sink_rose : (command : Asked) (s s' : ShelfState) (o o' : SinkState) → CommandRan command s s' o o' SinkFault → Rose o.faults o'.faults
+sink_rose : (command : Task) (s s' : ShelfState) (o o' : SinkState) → CommandRan command s s' o o' SinkFault → Rose o.faults o'.faults
 sink_rose (sum file) s s' o o' ran = ran.1.put.answer.1
 
 shelf_cause : (words : List (List ℕ)) (s s' : ShelfState) (o o' : SinkState) (outcome : Outcome) → outcome ≡ ShelfFault → Ran words s s' o o' outcome → Rose s.faults s'.faults
@@ -310,8 +312,12 @@ HasCauses-run c ran = record {
   sink = λ e. sink_cause c.words c.shelf c.shelf' c.out c.out' c.outcome e ran;
 }
 
+-- every transcript is within its read limit
+short_enough : (session : Recorded) → IsRecorded session → length (transcript_bytes session) ≤ transcript_limit
+short_enough session is = omega (arith, transcript_size session is)
+
 pub Completes-run : (c : Call) → HasRun c → Completes c
-Completes-run c ran = λ file session p is told le calm_shelf calm_sink. SumRan-completes file session c.shelf c.shelf' c.out c.out' c.outcome is told le calm_shelf calm_sink (sum_ran_of c.words file c.shelf c.shelf' c.out c.out' c.outcome p ran)
+Completes-run c ran = λ file session p is told calm_shelf calm_sink. SumRan-completes file session c.shelf c.shelf' c.out c.out' c.outcome is told (short_enough session is) calm_shelf calm_sink (sum_ran_of c.words file c.shelf c.shelf' c.out c.out' c.outcome p ran)
 
 pub RefusesTheMalformed-run : (c : Call) → HasRun c → RefusesTheMalformed c
 RefusesTheMalformed-run c ran = λ file bytes fault p told le bad calm. SumRan-refuses file bytes fault c.shelf c.shelf' c.out c.out' c.outcome told le bad calm (sum_ran_of c.words file c.shelf c.shelf' c.out c.out' c.outcome p ran)

@@ -3,7 +3,7 @@ use Rattle.std.proofs.Common.{◌≡◌, ℕ, ◌≤◌, List, [], ◌∷◌, �
 use Rattle.std.specs.Prelude.{IsErr}
 use Rattle.std.proofs.lemmas.List.{append-nil}
 use Rattle.dc_spec.specs.Outside.{SinkState, Rose, grown}
-use Rattle.dc_edge.specs.Sink.{Puts, PutAnswer, Takes}
+use Rattle.dc_edge.specs.Sink.{Puts, PutAnswer, Appended}
 use Rattle.dc_edge.specs.declared.fault.Failed.{Failed}
 
 -- a list grown twice
@@ -11,8 +11,8 @@ grown-grown : (told : Option (List ℕ)) (a b : List ℕ) → grown (grown told 
 grown-grown None a b = refl
 grown-grown (Some xs) a b = ap Some (append_assoc xs a b)
 
-Takes-then : (a b : List ℕ) (s0 s1 s2 : SinkState) → Takes a s0 s1 → Takes b s1 s2 → Takes (a ++ b) s0 s2
-Takes-then a b s0 s1 s2 p q = q ∙ ap (λ (told : Option (List ℕ)). grown told b) p ∙ grown-grown s0.written a b
+Appended-then : (a b : List ℕ) (s0 s1 s2 : SinkState) → Appended a s0 s1 → Appended b s1 s2 → Appended (a ++ b) s0 s2
+Appended-then a b s0 s1 s2 p q = q ∙ ap (λ (told : Option (List ℕ)). grown told b) p ∙ grown-grown s0.written a b
 
 grown-nothing : (told : Option (List ℕ)) → told ≡ grown told []
 grown-nothing None = refl
@@ -29,10 +29,10 @@ both_empty (x ∷ a) b e = absurd cc
 Rose-earlier : (n0 n1 n2 : ℕ) → n0 ≤ n1 → Rose n1 n2 → Rose n0 n2
 Rose-earlier n0 n1 n2 le rose = omega arith
 
-answer-then : (a b : List ℕ) (s0 s1 s2 : SinkState) (r : Result Unit Failed) → s0.faults ≤ s1.faults → Takes a s0 s1 → PutAnswer b s1 s2 r → PutAnswer (a ++ b) s0 s2 r
-answer-then a b s0 s1 s2 (Ok u) le p q = Takes-then a b s0 s1 s2 p q
+answer-then : (a b : List ℕ) (s0 s1 s2 : SinkState) (r : Result Unit Failed) → s0.faults ≤ s1.faults → Appended a s0 s1 → PutAnswer b s1 s2 r → PutAnswer (a ++ b) s0 s2 r
+answer-then a b s0 s1 s2 (Ok u) le p q = Appended-then a b s0 s1 s2 p q
 answer-then a b s0 s1 s2 (Err f) le p q =
-    ((a ++ q.0.0, (q.0.1.0, ap (λ (t : List ℕ). a ++ t) q.0.1.1 ∙ sym (append_assoc a q.0.0 q.0.1.0)), Takes-then a q.0.0 s0 s1 s2 p q.0.2), Rose-earlier s0.faults s1.faults s2.faults le q.1)
+    ((a ++ q.0.0, (q.0.1.0, ap (λ (t : List ℕ). a ++ t) q.0.1.1 ∙ sym (append_assoc a q.0.0 q.0.1.0)), Appended-then a q.0.0 s0 s1 s2 p q.0.2), Rose-earlier s0.faults s1.faults s2.faults le q.1)
 
 -- a part that was taken, and the rest as it was put
 pub Puts-then : (a b : List ℕ) (s0 s1 s2 : SinkState) (u : Unit) (r : Result Unit Failed) → Puts a s0 s1 (Ok u) → Puts b s1 s2 r → Puts (a ++ b) s0 s2 r

@@ -5,20 +5,20 @@ use Rattle.dc_cli.specs.declared.command.Command.{Command}
 use Rattle.dc_cli.specs.declared.command.Command.TheVariants.{Sum}
 
 -- a command with what it was given
-pub data Asked : Type 0 where
-  sum : List ℕ → Asked
+pub data Task : Type 0 where
+  sum : List ℕ → Task
 
 -- the words spell the command
-abbrev pub Spells : List (List ℕ) → Asked → Type 0
+abbrev pub Spells : List (List ℕ) → Task → Type 0
 Spells words (sum file) = (words ≡ codes "sum" ∷ file ∷ []) × IsTrue (is_name file)
 
 -- a command as it was read
-abbrev pub asked : Command → Asked
-asked (Sum file) = sum file.now
+abbrev pub task_of : Command → Task
+task_of (Sum file) = sum file.now
 
 -- the words were read as the command that they spell, or are no form
 abbrev pub ReadsAs : List (List ℕ) → Result Command ℕ → Type 0
-ReadsAs words (Ok command) = Spells words (asked command)
+ReadsAs words (Ok command) = Spells words (task_of command)
 ReadsAs words (Err place) = (is_form words ≡ false) × (place ≡ longest_begun words)
 
 -- the words after `sum` were read as its file, or do not fit

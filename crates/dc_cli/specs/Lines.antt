@@ -25,22 +25,22 @@ transcript_fault_text (Rest at) = numbered (codes "rest at=") at
 abbrev pub file_fault_text : FileFault → List ℕ
 file_fault_text (Transcript fault) = transcript_fault_text fault
 
--- what is told of each outcome
-abbrev pub told : Outcome → List ℕ
-told Done = []
-told (Usage place) = numbered (codes "usage: word ") place
-told (Missing name) = name ++ codes ": missing"
-told (TooLong name) = name ++ codes ": too long"
-told (Malformed name fault) = name ++ codes ": malformed: " ++ file_fault_text fault
-told ShelfFault = codes "file fault"
-told SinkFault = codes "output fault"
-told NoMemory = codes "no memory"
+-- what is outcome_text of each outcome
+abbrev pub outcome_text : Outcome → List ℕ
+outcome_text Done = []
+outcome_text (Usage place) = numbered (codes "usage: word ") place
+outcome_text (Missing name) = name ++ codes ": missing"
+outcome_text (TooLong name) = name ++ codes ": too long"
+outcome_text (Malformed name fault) = name ++ codes ": malformed: " ++ file_fault_text fault
+outcome_text ShelfFault = codes "file fault"
+outcome_text SinkFault = codes "output fault"
+outcome_text NoMemory = codes "no memory"
 
 -- the line of an outcome that is not `Done`
-abbrev pub told_line : Outcome → List ℕ
-told_line outcome = codes "dcnet: " ++ line (told outcome)
+abbrev pub outcome_line : Outcome → List ℕ
+outcome_line outcome = codes "dcnet: " ++ line (outcome_text outcome)
 
 -- what an outcome puts on the sink of faults: its line, and nothing where all was done
 abbrev pub fault_line : Outcome → List ℕ
 fault_line Done = []
-fault_line other = told_line other
+fault_line other = outcome_line other

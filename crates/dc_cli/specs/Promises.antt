@@ -1,14 +1,15 @@
 -- The promises of a call in its reader's words; each follows from what the call did by its outcome.
-use Rattle.std.specs.Prelude.{ℕ, ◌≡◌, ◌≤◌, ◌⊎◌, List, [], ◌∷◌, ◌++◌, length, false, Err}
+use Rattle.std.specs.Prelude.{String, ℕ, ◌≡◌, ◌≤◌, ◌⊎◌, List, [], ◌∷◌, ◌++◌, length, false, Err}
 use Rattle.dc_spec.specs.Outside.{ShelfState, SinkState, absent, held, Rose, grown, IsFront}
+use Rattle.dc_spec.specs.Limits.{transcript_limit}
 use Rattle.dc_spec.specs.Recorded.{Recorded, IsRecorded, transcript_bytes, superposed}
 use Rattle.dc_spec.specs.Text.{words_text}
 use Rattle.dc_edge.specs.Shelf.{IsHeldAbove, FailsUntold}
 use Rattle.dc_superpose.specs.Reading.{transcript_of}
 use Rattle.dc_superpose.specs.declared.fault.TranscriptFault.{TranscriptFault}
-use Rattle.dc_cli.specs.Forms.{is_form, longest_begun}
-use Rattle.dc_cli.specs.Commands.{Asked, sum, Spells}
-use Rattle.dc_cli.specs.Summing.{transcript_limit, Refused}
+use Rattle.dc_cli.specs.Forms.{texts, is_form, longest_begun}
+use Rattle.dc_cli.specs.Commands.{Task, sum, Spells}
+use Rattle.dc_cli.specs.Summing.{Refused}
 use Rattle.dc_cli.specs.declared.outcome.Outcome.{Outcome}
 use Rattle.dc_cli.specs.declared.outcome.Outcome.TheVariants.{Done, Usage, Missing, TooLong, Malformed, ShelfFault, SinkFault, NoMemory}
 use Rattle.dc_cli.specs.declared.outcome.FileFault.{FileFault}
@@ -23,12 +24,13 @@ pub record Call : Type 0 where
   pub out' : SinkState
   pub outcome : Outcome
 
--- a call by its parts
-abbrev pub call_of : List (List ℕ) → ShelfState → ShelfState → SinkState → SinkState → Outcome → Call
-call_of words before after printed_before printed_after ended = record { words = words; shelf = before; shelf' = after; out = printed_before; out' = printed_after; outcome = ended }
+-- a call: how the states of a shelf and of a sink are seen, the words, both objects before and after, and the outcome
+abbrev pub call : {F K A : Type 0} → (F → ShelfState) → (K → SinkState) → List (String A) → F → F → K → K → Outcome → Call
+call shelf_state sink_state words shelf shelf' out out' outcome =
+    record { words = texts words; shelf = shelf_state shelf; shelf' = shelf_state shelf'; out = sink_state out; out' = sink_state out'; outcome = outcome }
 
 -- the files that a command asks for, in order; by what the shelf tells, since a file may name others
-abbrev pub AsksFor : ShelfState → Asked → List (List ℕ) → Type 0
+abbrev pub AsksFor : ShelfState → Task → List (List ℕ) → Type 0
 AsksFor shelf (sum file) files = files ≡ file ∷ []
 
 -- words that are no form are refused, and no others are
@@ -37,26 +39,26 @@ pub record RefusesOtherWords (c : Call) : Type 0 where
   pub only : (place : ℕ) → c.outcome ≡ Usage place → is_form c.words ≡ false
 
 -- what a command leaves of what each name holds: all
-abbrev pub Keeps : Asked → ShelfState → ShelfState → Type 0
-Keeps (sum file) before after = after.holds ≡ before.holds
+abbrev pub Leaves : Task → ShelfState → ShelfState → Type 0
+Leaves (sum file) before after = after.holds ≡ before.holds
 
 -- what each name holds stays, but for what the command of the words writes
 pub record KeepsFiles (c : Call) : Type 0 where
-  pub by : (command : Asked) → Spells c.words command → Keeps command c.shelf c.shelf'
+  pub by : (command : Task) → Spells c.words command → Leaves command c.shelf c.shelf'
   pub none : is_form c.words ≡ false → c.shelf'.holds ≡ c.shelf.holds
 
 -- the shelf was asked for a front of the files of the command
-abbrev pub AskedFront : Call → Asked → Type 0
+abbrev pub AskedFront : Call → Task → Type 0
 AskedFront c command = (files : List (List ℕ)) × AsksFor c.shelf command files × ((names : List (List ℕ)) × IsFront names files × (c.shelf'.asked ≡ grown c.shelf.asked names))
 
 -- the shelf was asked for all files of the command
-abbrev pub AskedAll : Call → Asked → Type 0
+abbrev pub AskedAll : Call → Task → Type 0
 AskedAll c command = (files : List (List ℕ)) × AsksFor c.shelf command files × (c.shelf'.asked ≡ grown c.shelf.asked files)
 
 -- the shelf was asked for a front of the files of the words, and for all of them where all was done
 pub record AsksInOrder (c : Call) : Type 0 where
-  pub front : (command : Asked) → Spells c.words command → AskedFront c command
-  pub whole : (command : Asked) → Spells c.words command → c.outcome ≡ Done → AskedAll c command
+  pub front : (command : Task) → Spells c.words command → AskedFront c command
+  pub whole : (command : Task) → Spells c.words command → c.outcome ≡ Done → AskedAll c command
   pub none : is_form c.words ≡ false → c.shelf'.asked ≡ c.shelf.asked
 
 -- nothing is printed but where all was done or the output failed
@@ -69,7 +71,7 @@ PrintsSums c = c.outcome ≡ Done → (file bytes : List ℕ) → Spells c.words
     (session : Recorded) × IsRecorded session × (bytes ≡ transcript_bytes session) × (c.out'.written ≡ grown c.out.written (words_text (superposed session)))
 
 -- a file that a command asks for, and the most bytes that it may have
-abbrev pub HasLimit : ShelfState → Asked → List ℕ → ℕ → Type 0
+abbrev pub HasLimit : ShelfState → Task → List ℕ → ℕ → Type 0
 HasLimit shelf (sum file) name limit = (name ≡ file) × (limit ≡ transcript_limit)
 
 -- the outcome tells a name
@@ -86,7 +88,7 @@ MissesTheAbsent c = (name : List ℕ) → c.outcome ≡ Missing name → (c.shel
 
 -- a name is told as too long only where it is a file of the command and holds more than its limit, or the shelf tells nothing of it and its faults rose
 abbrev pub RefusesTheLong : Call → Type 0
-RefusesTheLong c = (command : Asked) (name : List ℕ) → Spells c.words command → c.outcome ≡ TooLong name →
+RefusesTheLong c = (command : Task) (name : List ℕ) → Spells c.words command → c.outcome ≡ TooLong name →
     (limit : ℕ) × HasLimit c.shelf command name limit × (IsHeldAbove (c.shelf.holds name) limit ⊎ FailsUntold (c.shelf.holds name) c.shelf.faults c.shelf'.faults)
 
 -- a fault of a transcript is the first one of the bytes that the shelf tells of its name, which are the transcript of no session
@@ -103,7 +105,7 @@ pub record HasCauses (c : Call) : Type 0 where
   pub shelf : c.outcome ≡ ShelfFault → Rose c.shelf.faults c.shelf'.faults
   pub sink : c.outcome ≡ SinkFault → Rose c.out.faults c.out'.faults
 
--- where the file is told, within its limit and the transcript of a session, and no fault rose, all is done unless memory ran out
+-- where the shelf holds the transcript of a session under the name and no count of faults rose, all is done, or memory ran out
 abbrev pub Completes : Call → Type 0
-Completes c = (file : List ℕ) → (session : Recorded) → Spells c.words (sum file) → IsRecorded session → c.shelf.holds file ≡ held (transcript_bytes session) → length (transcript_bytes session) ≤ transcript_limit →
+Completes c = (file : List ℕ) → (session : Recorded) → Spells c.words (sum file) → IsRecorded session → c.shelf.holds file ≡ held (transcript_bytes session) →
     (Rose c.shelf.faults c.shelf'.faults → ⊥) → (Rose c.out.faults c.out'.faults → ⊥) → (c.outcome ≡ Done) ⊎ (c.outcome ≡ NoMemory)

@@ -5,7 +5,7 @@ use Rattle.dc_edge.specs.Sink.{Puts}
 use Rattle.dc_edge.specs.declared.fault.Failed.{Failed}
 use Rattle.dc_cli.specs.Lines.{fault_line}
 use Rattle.dc_cli.specs.Forms.{is_form, longest_begun}
-use Rattle.dc_cli.specs.Commands.{Asked, sum, Spells}
+use Rattle.dc_cli.specs.Commands.{Task, sum, Spells}
 use Rattle.dc_cli.specs.Summing.{SumRan}
 use Rattle.dc_cli.specs.declared.outcome.Outcome.{Outcome}
 use Rattle.dc_cli.specs.declared.outcome.Outcome.TheVariants.{Usage}
@@ -18,12 +18,12 @@ pub record RefusedWords (words : List (List ℕ)) (place : ℕ) (shelf shelf' : 
   pub out_stays : out' ≡ out
 
 -- what a command did, by its outcome
-abbrev pub CommandRan : Asked → ShelfState → ShelfState → SinkState → SinkState → Outcome → Type 0
+abbrev pub CommandRan : Task → ShelfState → ShelfState → SinkState → SinkState → Outcome → Type 0
 CommandRan (sum file) shelf shelf' out out' outcome = SumRan file shelf shelf' out out' outcome
 
 -- the command that the words spell, and what it did
 pub record RanCommand (words : List (List ℕ)) (shelf shelf' : ShelfState) (out out' : SinkState) (outcome : Outcome) : Type 0 where
-  pub command : Asked
+  pub command : Task
   pub spelled : Spells words command
   pub ran : CommandRan command shelf shelf' out out' outcome
 
@@ -33,6 +33,6 @@ Ran words shelf shelf' out out' (Usage place) = RefusedWords words place shelf s
 Ran words shelf shelf' out out' other = RanCommand words shelf shelf' out out' other
 
 -- the line of an outcome was put, or a front of it and the count of faults rose; where all was done, nothing was
-pub record Told (outcome : Outcome) (before after : SinkState) : Type 0 where
+pub record PutsLine (outcome : Outcome) (before after : SinkState) : Type 0 where
   pub answer : Result Unit Failed
   pub put : Puts (fault_line outcome) before after answer

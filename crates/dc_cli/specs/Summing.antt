@@ -1,6 +1,7 @@
 -- The command `sum`: a transcript is read, and the text of its superposed words is put.
 use Rattle.std.specs.Prelude.{ℕ, ◌≡◌, ◌⊎◌, List, Result, Ok, Err}
 use Rattle.dc_spec.specs.Outside.{ShelfState, SinkState}
+use Rattle.dc_spec.specs.Limits.{transcript_limit}
 use Rattle.dc_spec.specs.Recorded.{Recorded, IsRecorded, transcript_bytes, superposed}
 use Rattle.dc_spec.specs.Text.{words_text}
 use Rattle.dc_edge.specs.Shelf.{Reads}
@@ -13,10 +14,6 @@ use Rattle.dc_cli.specs.Reading.{Unasked}
 use Rattle.dc_cli.specs.declared.outcome.Outcome.{Outcome}
 use Rattle.dc_cli.specs.declared.outcome.Outcome.TheVariants.{Done, Missing, TooLong, Malformed, ShelfFault, SinkFault, NoMemory}
 use Rattle.dc_cli.specs.declared.outcome.FileFault.TheVariants.{Transcript}
-
--- the most bytes that a transcript may have
-abbrev pub transcript_limit : ℕ
-transcript_limit = 134217728
 
 -- the bytes are the transcript of a session, and the words are its superposed words
 pub record Summed (bytes : List ℕ) (words : List (List ℕ)) : Type 0 where
@@ -41,7 +38,7 @@ pub record GaveBytes (file : List ℕ) (before after : ShelfState) (Holds : List
   pub read : Reads file transcript_limit before after (Ok bytes)
   pub holds : Holds bytes
 
--- a fault of a transcript is told of the file
+-- the outcome of a transcript's fault: the file is malformed, or there was no memory for its name
 abbrev pub TellsFault : List ℕ → TranscriptFault → Outcome → Type 0
 TellsFault file fault (Malformed name (Transcript seen)) = (name ≡ file) × (seen ≡ fault)
 TellsFault file fault NoMemory = Unit {0}

@@ -2,7 +2,7 @@
 
 ghost use Rattle.std.specs.Prelude.{◌≡◌};
 ghost use Rattle.dc_edge.specs.Sink.{Puts};
-ghost use Rattle.dc_cli.specs.Lines.{transcript_fault_text, file_fault_text, told, told_line, fault_line};
+ghost use Rattle.dc_cli.specs.Lines.{transcript_fault_text, file_fault_text, outcome_text, outcome_line, fault_line};
 
 use crate::outcome::{FileFault, Outcome};
 use crate::pieces::{put_named, put_number};
@@ -15,20 +15,20 @@ pub fn put_fault<E: Sink>(o: &Outcome, err: &mut E) -> Result<(), Failed>
 {
     match o {
         Outcome::Done => Ok(()),
-        other => put_told_line(other, err),
+        other => put_whole_line(other, err),
     }
 }
 
-fn put_told_line<E: Sink>(o: &Outcome, err: &mut E) -> Result<(), Failed>
-    ensures { Puts (told_line o.now) (E.state err.old) (E.state err.new) result }
+fn put_whole_line<E: Sink>(o: &Outcome, err: &mut E) -> Result<(), Failed>
+    ensures { Puts (outcome_line o.now) (E.state err.old) (E.state err.new) result }
 {
     err.put(b"dcnet: ")?;
-    put_told(o, err)?;
+    put_outcome_text(o, err)?;
     err.put(b"\n")
 }
 
-fn put_told<E: Sink>(o: &Outcome, err: &mut E) -> Result<(), Failed>
-    ensures { Puts (told o.now) (E.state err.old) (E.state err.new) result }
+fn put_outcome_text<E: Sink>(o: &Outcome, err: &mut E) -> Result<(), Failed>
+    ensures { Puts (outcome_text o.now) (E.state err.old) (E.state err.new) result }
 {
     match o {
         Outcome::Done => Ok(()),

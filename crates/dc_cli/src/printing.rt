@@ -7,7 +7,7 @@ ghost use Rattle.dc_edge.specs.Sink.{Puts};
 use dc_edge::{Failed, Sink};
 use dc_field::{Word, Words, word_text};
 
-/// How many lines are put at once.
+/// How many lines one piece has at most.
 const LINES_AT_ONCE: usize = 256;
 
 /// The bytes of a line: eighty digits and a line feed.
@@ -36,7 +36,7 @@ fn put_lines<K: Sink>(words: &[Word], out: &mut K) -> Result<(), Failed>
     out.put(&lines[..end])
 }
 
-/// Fills a buffer with some lines, and tells where they end.
+/// Fills a buffer with some lines, and gives the place where they end.
 fn fill_lines(lines: &mut [u8], words: &[Word]) -> usize
     requires { 81 * length words.now ≤ length lines.old }
     ensures end { result ≡ 81 * length words.now }

@@ -6,12 +6,9 @@ use crate::outcome::{FileFault, Outcome};
 use crate::printing::put_words;
 use crate::reading::read_file;
 use dc_edge::{Shelf, Sink};
-use dc_field::{Refusal, Text, Words};
+use dc_field::{Refusal, TRANSCRIPT_LIMIT, Text, Words};
 use dc_superpose::{TranscriptFault, read_sums};
 use std::alloc::Global;
-
-/// The most bytes that a transcript may have.
-const TRANSCRIPT_LIMIT: u64 = 134217728;
 
 /// Prints the superposed words of a transcript.
 pub fn run_sum<F: Shelf, K: Sink>(alloc: Global, file: &str, shelf: &mut F, out: &mut K) -> Outcome
@@ -26,7 +23,7 @@ pub fn run_sum<F: Shelf, K: Sink>(alloc: Global, file: &str, shelf: &mut F, out:
     }
 }
 
-/// The superposed words of the transcript that a file holds.
+/// The superposed words of the transcript in a file.
 fn sums_of_file<F: Shelf>(alloc: Global, file: &str, shelf: &mut F) -> Result<Words, Outcome>
     ensures { SummedFile file.now (F.state shelf.old) (F.state shelf.new) result }
 {

@@ -1,11 +1,9 @@
 //! The top call.
 
-ghost use Rattle.dc_edge.specs.Sink.{Puts};
 ghost use Rattle.dc_cli.specs.Forms.{texts};
-ghost use Rattle.dc_cli.specs.Lines.{fault_line};
-ghost use Rattle.dc_cli.specs.Commands.{asked};
-ghost use Rattle.dc_cli.specs.Promises.{call_of, RefusesOtherWords, PrintsSums, Completes, AsksInOrder, TellsTheLast, KeepsFiles, PrintsOnlyWhenDone, MissesTheAbsent, RefusesTheLong, RefusesTheMalformed, TellsTheFault, HasCauses};
-ghost use Rattle.dc_cli.specs.Ran.{Ran, CommandRan, Told};
+ghost use Rattle.dc_cli.specs.Commands.{task_of};
+ghost use Rattle.dc_cli.specs.Promises.{call, RefusesOtherWords, PrintsSums, Completes, AsksInOrder, TellsTheLast, KeepsFiles, PrintsOnlyWhenDone, MissesTheAbsent, RefusesTheLong, RefusesTheMalformed, TellsTheFault, HasCauses};
+ghost use Rattle.dc_cli.specs.Ran.{Ran, CommandRan, PutsLine};
 
 use crate::command::{Command, command_of};
 use crate::fault_line::put_fault;
@@ -15,7 +13,7 @@ use dc_edge::{Gate, Shelf, Sink};
 use std::alloc::Global;
 use std::thread::Threads;
 
-/// Runs the command that the words spell, over a shelf of files, and puts its text on `out` and its fault line on
+/// Runs the command that the words spell, over a shelf of files. It puts the command's text on `out` and its fault line on
 /// `err`. The words are the command line without the program's name.
 pub fn dcnet<R: Threads + Sync, F: Shelf, K: Sink, E: Sink, G: Gate + Sync>(
     rt: &R,
@@ -27,31 +25,31 @@ pub fn dcnet<R: Threads + Sync, F: Shelf, K: Sink, E: Sink, G: Gate + Sync>(
     gate: &G,
 ) -> Outcome
     ensures ran { Ran (texts words.now) (F.state shelf.old) (F.state shelf.new) (K.state out.old) (K.state out.new) result }
-    ensures err { Told result (E.state err.old) (E.state err.new) }
+    ensures err { PutsLine result (E.state err.old) (E.state err.new) }
     ensures words { RefusesOtherWords
-        (call_of (texts words.now) (F.state shelf.old) (F.state shelf.new) (K.state out.old) (K.state out.new) result) }
+        (call F.state K.state words.now shelf.old shelf.new out.old out.new result) }
     ensures sums { PrintsSums
-        (call_of (texts words.now) (F.state shelf.old) (F.state shelf.new) (K.state out.old) (K.state out.new) result) }
+        (call F.state K.state words.now shelf.old shelf.new out.old out.new result) }
     ensures complete { Completes
-        (call_of (texts words.now) (F.state shelf.old) (F.state shelf.new) (K.state out.old) (K.state out.new) result) }
+        (call F.state K.state words.now shelf.old shelf.new out.old out.new result) }
     ensures asked { AsksInOrder
-        (call_of (texts words.now) (F.state shelf.old) (F.state shelf.new) (K.state out.old) (K.state out.new) result) }
+        (call F.state K.state words.now shelf.old shelf.new out.old out.new result) }
     ensures last { TellsTheLast
-        (call_of (texts words.now) (F.state shelf.old) (F.state shelf.new) (K.state out.old) (K.state out.new) result) }
+        (call F.state K.state words.now shelf.old shelf.new out.old out.new result) }
     ensures kept { KeepsFiles
-        (call_of (texts words.now) (F.state shelf.old) (F.state shelf.new) (K.state out.old) (K.state out.new) result) }
+        (call F.state K.state words.now shelf.old shelf.new out.old out.new result) }
     ensures silent { PrintsOnlyWhenDone
-        (call_of (texts words.now) (F.state shelf.old) (F.state shelf.new) (K.state out.old) (K.state out.new) result) }
+        (call F.state K.state words.now shelf.old shelf.new out.old out.new result) }
     ensures missing { MissesTheAbsent
-        (call_of (texts words.now) (F.state shelf.old) (F.state shelf.new) (K.state out.old) (K.state out.new) result) }
+        (call F.state K.state words.now shelf.old shelf.new out.old out.new result) }
     ensures too_long { RefusesTheLong
-        (call_of (texts words.now) (F.state shelf.old) (F.state shelf.new) (K.state out.old) (K.state out.new) result) }
+        (call F.state K.state words.now shelf.old shelf.new out.old out.new result) }
     ensures malformed { RefusesTheMalformed
-        (call_of (texts words.now) (F.state shelf.old) (F.state shelf.new) (K.state out.old) (K.state out.new) result) }
+        (call F.state K.state words.now shelf.old shelf.new out.old out.new result) }
     ensures fault { TellsTheFault
-        (call_of (texts words.now) (F.state shelf.old) (F.state shelf.new) (K.state out.old) (K.state out.new) result) }
+        (call F.state K.state words.now shelf.old shelf.new out.old out.new result) }
     ensures causes { HasCauses
-        (call_of (texts words.now) (F.state shelf.old) (F.state shelf.new) (K.state out.old) (K.state out.new) result) }
+        (call F.state K.state words.now shelf.old shelf.new out.old out.new result) }
 {
     let outcome = run(alloc, words, shelf, out);
     let _ = put_fault(&outcome, err);
@@ -74,7 +72,7 @@ fn run_command<F: Shelf, K: Sink>(
     shelf: &mut F,
     out: &mut K,
 ) -> Outcome
-    ensures { CommandRan (asked command.entry) (F.state shelf.old) (F.state shelf.new) (K.state out.old) (K.state out.new) result }
+    ensures { CommandRan (task_of command.entry) (F.state shelf.old) (F.state shelf.new) (K.state out.old) (K.state out.new) result }
 {
     match command {
         Command::Sum { file } => run_sum(alloc, file, shelf, out),

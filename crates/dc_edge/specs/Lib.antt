@@ -3,3 +3,4 @@ pub mod ShelfBook
 pub mod Sink
 pub mod SinkBook
 pub mod Untold
+pub mod Opened

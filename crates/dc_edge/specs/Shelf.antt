@@ -4,11 +4,11 @@ use Rattle.dc_spec.specs.Outside.{Holding, untold, absent, held, ShelfState, Ros
 use Rattle.dc_edge.specs.declared.fault.ShelfFault.{ShelfFault}
 use Rattle.dc_edge.specs.declared.fault.ShelfFault.TheVariants.{Missing, TooLong, Failed, NoMemory}
 
--- what a name holds is told, and longer than the limit
+-- the bytes under a name are known, and longer than the limit
 abbrev pub IsHeldAbove : Holding → ℕ → Type 0
 IsHeldAbove told limit = (bytes : List ℕ) × (told ≡ held bytes) × (limit < length bytes)
 
--- the name is put at the end of the names asked for, but for want of memory
+-- the name is put at the end of the names asked for, unless memory ran out
 abbrev pub asked_after : {A : Type 0} → Result A ShelfFault → List ℕ → Option (List (List ℕ)) → Option (List (List ℕ))
 asked_after (Ok _) name told = grown told (name ∷ [])
 asked_after (Err Missing) name told = grown told (name ∷ [])
@@ -16,7 +16,7 @@ asked_after (Err TooLong) name told = grown told (name ∷ [])
 asked_after (Err Failed) name told = grown told (name ∷ [])
 asked_after (Err NoMemory) name told = told
 
--- the shelf does not tell of a name, and its count of faults rose
+-- the bytes under a name are unknown, and the count of faults rose
 abbrev pub FailsUntold : Holding → ℕ → ℕ → Type 0
 FailsUntold told before now = (told ≡ untold) × Rose before now
 
@@ -28,7 +28,7 @@ ReadAnswer name limit before after (Err TooLong) = IsHeldAbove (before.holds nam
 ReadAnswer name limit before after (Err Failed) = Rose before.faults after.faults
 ReadAnswer name limit before after (Err NoMemory) = after.faults ≡ before.faults
 
--- a read of a name: what is held stays, the name was asked for, the count never falls
+-- a read of a name: all files stay, the name was asked for, the count never falls
 pub record Reads (name : List ℕ) (limit : ℕ) (before after : ShelfState) (result : Result (List ℕ) ShelfFault) : Type 0 where
   pub kept : after.holds ≡ before.holds
   pub asked : after.asked ≡ asked_after result name before.asked

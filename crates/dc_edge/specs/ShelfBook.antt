@@ -19,12 +19,12 @@ abbrev pub held_bytes : List (List ℕ × List ℕ) → List ℕ → Option (Lis
 held_bytes [] name = None
 held_bytes (file ∷ files) name = if bytes_eq file.0 name then Some file.1 else held_bytes files name
 
--- what a shelf in memory tells of a name: all
+-- what is known of a name in a shelf in memory: all
 abbrev pub holding_of : Option (List ℕ) → Holding
 holding_of None = absent
 holding_of (Some bytes) = held bytes
 
--- a shelf in memory tells all
+-- all of a shelf in memory is known
 abbrev pub shelf_state : ShelfBook → ShelfState
 shelf_state book = record { holds = λ name. holding_of (held_bytes book.files name); asked = Some book.asked; faults = book.faults }
 
@@ -45,13 +45,13 @@ abbrev pub answer_of : Option (List ℕ) → ℕ → Result (List ℕ) ShelfFaul
 answer_of None limit = Err Missing
 answer_of (Some bytes) limit = if nat_le (length bytes) limit then Ok bytes else Err TooLong
 
--- the book after a read, and the answer: a call that is to fail fails, else what the name holds decides
+-- the book after a read, and the answer: a call that is to fail fails, else the bytes under the name decide
 abbrev pub read_of : ShelfBook → List ℕ → ℕ → ShelfBook × Result (List ℕ) ShelfFault
 read_of book name limit =
     if list_any (λ n. n == book.calls) book.fails then (failed_book_asked book name, Err Failed)
     else (book_asked book name, answer_of (held_bytes book.files name) limit)
 
--- a read does what read_of says, or nothing for want of memory
+-- a read does what read_of says, or nothing where memory ran out
 abbrev pub ReadsBook : List ℕ → ℕ → ShelfBook → ShelfBook → Result (List ℕ) ShelfFault → Type 0
 ReadsBook name limit book now (Err NoMemory) = now ≡ book
 ReadsBook name limit book now result = (now, result) ≡ read_of book name limit

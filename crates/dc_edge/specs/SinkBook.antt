@@ -11,7 +11,7 @@ pub record SinkBook : Type 0 where
   pub calls : ℕ
   pub faults : ℕ
 
--- a sink in memory tells all
+-- all of a sink in memory is known
 abbrev pub sink_state : SinkBook → SinkState
 sink_state book = record { written = Some book.written; faults = book.faults }
 

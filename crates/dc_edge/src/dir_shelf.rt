@@ -1,19 +1,22 @@
 //! A shelf over the file system.
 
 ghost use Rattle.std.specs.Prelude.{◌≡◌, ◌≤◌, IfOk, length};
+ghost use Rattle.std.specs.IoError.{error_kind};
+ghost use Rattle.dc_edge.specs.Opened.{opening_fault};
 ghost use Rattle.dc_edge.specs.Untold.{untold_shelf};
 
 use crate::fault::ShelfFault;
+use crate::opened::{fault_of, read_rest};
 use crate::shelf::Shelf;
 use dc_field::Bytes;
 use std::alloc::Global;
 use std::fs::{File, OpenFile};
 use std::io;
-use std::io::{ErrorKind, Read};
+use std::io::ErrorKind;
 use std::rt::Files;
 
 /// The files of the file system, each by its path, as `DirShelf::new(rt)`.
-/// It tells nothing but its count of faults, which a file that is missing or too long raises too.
+/// Contracts know its count of faults alone. A file that is missing or too long raises it too.
 #[derive(Drop)]
 pub struct DirShelf<R: Files> {
     files: R,
@@ -35,7 +38,7 @@ impl<R: Files> Shelf for DirShelf<R> {
     ghost state = { λ s. untold_shelf s.fault_count };
 
     fn read(&mut self, alloc: Global, name: &str, limit: u64) -> Result<Bytes, ShelfFault> {
-        let answer = read_file(&self.files, alloc, name, limit);
+        let answer = read_path(&self.files, alloc, name, limit);
         match &answer {
             Ok(_) | Err(ShelfFault::NoMemory) => {}
             Err(_) => self.fault_count = self.fault_count.saturating_add(1),
@@ -44,36 +47,29 @@ impl<R: Files> Shelf for DirShelf<R> {
     }
 }
 
-// The bytes of a file, in room of its length as long as it does not grow.
-fn read_file<R: Files>(
+// Opens a file, refuses it where its length is above the limit, and reads it in room of its length.
+fn read_path<R: Files>(
     files: &R,
     alloc: Global,
-    name: &str,
+    path: &str,
     limit: u64,
 ) -> Result<Bytes, ShelfFault>
     ensures { IfOk result (λ bytes. length bytes ≤ limit) }
 {
-    let file = File::open(files, name).map_err(fault_of)?;
-    let size = file.metadata().map_err(fault_of)?.len();
+    let file = File::open(files, path).map_err(fault_of_opening)?;
+    let size = file.metadata().map_err(fault_of_opening)?.len();
     if size > limit {
         return Err(ShelfFault::TooLong);
     }
-    // One byte more, so that the end is met without growing.
-    let room = size.saturating_add(1) as usize;
-    let mut bytes = Vec::with_capacity(alloc, room)?;
-    let mut front = file.take(limit.saturating_add(1));
-    front.read_to_end(&mut bytes).map_err(fault_of)?;
-    if bytes.len() as u64 > limit {
-        return Err(ShelfFault::TooLong);
-    }
-    Ok(Bytes::from_vec(bytes))
+    read_rest(file, alloc, size.saturating_add(1) as usize, limit)
 }
 
-// What an error of std says of a file.
-fn fault_of(error: io::Error) -> ShelfFault {
+// The fault that an error at the opening of a file is.
+fn fault_of_opening(error: io::Error) -> ShelfFault
+    ensures { result ≡ opening_fault (error_kind error) }
+{
     match error.kind() {
         ErrorKind::NotFound => ShelfFault::Missing,
-        ErrorKind::OutOfMemory => ShelfFault::NoMemory,
-        _ => ShelfFault::Failed,
+        _ => fault_of(&error),
     }
 }

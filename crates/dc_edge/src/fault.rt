@@ -1,4 +1,4 @@
-//! Why the outside did not do what it was asked.
+//! Why a call of the outside failed.
 
 ghost use Rattle.std.specs.Prelude.{◌≡◌};
 ghost use Rattle.dc_edge.specs.declared.fault.ShelfFault.TheVariants.{NoMemory as no_memory};
@@ -13,10 +13,10 @@ pub struct Failed;
 /// Why a shelf gave no bytes.
 #[derive(Clone, Copy, Debug, PartialEq, Eq, Error)]
 pub enum ShelfFault {
-    /// The shelf does not hold the name.
+    /// There is no file of the name.
     #[error("missing")]
     Missing,
-    /// The name holds more bytes than the limit.
+    /// The file has more bytes than the limit.
     #[error("too long")]
     TooLong,
     /// The shelf failed.

@@ -6,6 +6,7 @@ mod fault;
 mod gate;
 mod memory_shelf;
 mod memory_sink;
+mod opened;
 mod shelf;
 mod sink;
 mod std_sink;
@@ -15,9 +16,7 @@ pub use fault::{Failed, ShelfFault};
 pub use gate::{Gate, OpenGate};
 pub use memory_shelf::MemoryShelf;
 pub use memory_sink::MemorySink;
+pub use opened::read_rest;
 pub use shelf::Shelf;
 pub use sink::Sink;
 pub use std_sink::StdSink;
-
-#[cfg(test)]
-mod tests;

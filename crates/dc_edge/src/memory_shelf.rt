@@ -11,7 +11,7 @@ use dc_field::{Bytes, NoMemory, Text};
 use std::alloc::{AllocError, Global};
 use std::marker::Model;
 
-// A name and the bytes that it holds.
+// A name and the bytes under it.
 #[derive(Drop)]
 struct HeldFile {
     name: Text,
@@ -26,7 +26,7 @@ impl Model for HeldFile {
     ghost view = { λ f. (f.name, f.bytes) };
 }
 
-/// A shelf that holds what it is given, and that fails at chosen calls.
+/// A shelf that holds the files that it is given, and that fails at chosen calls.
 /// Calls of `read` are numbered from 0; the number stays at 2^32 - 1 once there.
 #[derive(Drop)]
 pub struct MemoryShelf {
@@ -46,7 +46,7 @@ impl Model for MemoryShelf {
 }
 
 impl MemoryShelf {
-    /// A shelf that holds no name. Its calls whose numbers stand in `fails` fail.
+    /// A shelf without files. Its calls whose numbers are in `fails` fail.
     pub fn new(alloc: Global, fails: &[u32]) -> Result<MemoryShelf, NoMemory>
         ensures { IfOk result (λ s. s ≡ record { files = []; asked = []; fails = fails.now; calls = 0; faults = 0 }) }
     {
@@ -60,7 +60,7 @@ impl MemoryShelf {
         })
     }
 
-    /// Holds the bytes under the name from here on, in place of what the name held.
+    /// Holds the bytes under the name from here on, in place of those that it held.
     pub fn hold(&mut self, alloc: Global, name: &str, bytes: &[u8]) -> Result<(), NoMemory>
         ensures ok { OnOk result (self.new ≡ book_holding self.old name.now bytes.now) }
         ensures err { OnErr result (self.new ≡ self.old) }
@@ -75,7 +75,7 @@ impl MemoryShelf {
 impl Shelf for MemoryShelf {
     ghost state = { shelf_state };
 
-    /// Takes its memory first, so that want of memory leaves all as it was.
+    /// Takes its memory first, so that all stays as it was where memory runs out.
     fn read(&mut self, alloc: Global, name: &str, limit: u64) -> Result<Bytes, ShelfFault>
         ensures exact { ReadsBook name.now limit self.old self.new result }
         ensures reads { Reads name.now limit (shelf_state self.old) (shelf_state self.new) result }
@@ -110,7 +110,7 @@ fn answer_for(
     Ok(answer)
 }
 
-// The bytes that the name holds.
+// The bytes under the name.
 fn found<'a>(files: &'a [HeldFile], name: &str) -> Option<&'a [u8]>
     ensures { option_copied result ≡ held_bytes files.entry.now name.now }
 {

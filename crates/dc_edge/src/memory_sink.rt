@@ -10,7 +10,7 @@ use dc_field::NoMemory;
 use std::alloc::Global;
 use std::marker::Model;
 
-/// A sink that keeps what it is given, up to a room in bytes, and that fails at chosen calls.
+/// A sink that keeps the bytes that it is given, up to a room, and that fails at chosen calls.
 /// Calls on pieces that are not empty are numbered from 0; the number stays at 2^32 - 1 once there.
 #[derive(Drop)]
 pub struct MemorySink {
@@ -22,18 +22,18 @@ pub struct MemorySink {
 }
 
 impl Model for MemorySink {
-    ghost use Rattle.std.specs.Prelude.{◌≤◌, vec_len, vec_capacity};
+    ghost use Rattle.std.specs.Prelude.{◌≡◌, ◌≤◌, vec_len, vec_capacity};
     ghost use Rattle.dc_edge.specs.SinkBook.{SinkBook};
 
     ghost Value = { SinkBook };
 
     ghost view = { λ s. record { written = s.held.items; room = s.room; fails = s.failing.items; calls = s.call; faults = s.fault_count } };
 
-    ghost invariant = { λ s. (vec_len s.held ≤ s.room) × (s.room ≤ vec_capacity s.held) };
+    ghost invariant = { λ s. (vec_len s.held ≤ s.room) × (vec_capacity s.held ≡ s.room) };
 }
 
 impl MemorySink {
-    /// An empty sink with room for `room` bytes. Its calls whose numbers stand in `fails` fail.
+    /// An empty sink with room for `room` bytes. Its calls whose numbers are in `fails` fail.
     pub fn new(alloc: Global, room: u32, fails: &[u32]) -> Result<MemorySink, NoMemory>
         ensures { IfOk result (λ s. s ≡ record { written = []; room = room; fails = fails.now; calls = 0; faults = 0 }) }
     {
@@ -49,7 +49,7 @@ impl MemorySink {
         })
     }
 
-    /// What was put so far.
+    /// All bytes that were put so far.
     pub fn bytes(&self) -> &[u8]
         ensures { result.now ≡ self.now.written }
     {
@@ -60,7 +60,7 @@ impl MemorySink {
 impl Sink for MemorySink {
     ghost state = { sink_state };
 
-    /// Takes no memory.
+    /// Takes no memory: the room that `new` took is all that the sink ever has.
     fn put(&mut self, bytes: &[u8]) -> Result<(), Failed>
         ensures exact { (self.new, is_ok result) ≡ put_of self.old bytes.now }
         ensures puts { Puts bytes.now (sink_state self.old) (sink_state self.new) result }
@@ -83,12 +83,14 @@ impl Sink for MemorySink {
     }
 }
 
-// Appends within the room that was taken, so that no memory is wanted.
+// Appends within the room that was taken.
 fn append(held: &mut Vec<u8>, bytes: &[u8])
     requires { vec_len held.old + length bytes.now ≤ vec_capacity held.old }
     ensures items { held.new.items ≡ held.old.items ++ bytes.now }
     ensures len { vec_len held.new ≡ vec_len held.old + length bytes.now }
-    ensures capacity { vec_capacity held.old ≤ vec_capacity held.new }
+    ensures capacity { vec_capacity held.new ≡ vec_capacity held.old }
 {
-    let _ = held.extend_from_slice(bytes);
+    for byte in bytes {
+        held.push_reserved(*byte);
+    }
 }

@@ -9,7 +9,7 @@ use std::alloc::Global;
 
 /// Files by name.
 pub trait Shelf {
-    /// What each name holds, the names asked for so far, and the count of faults.
+    /// The file of each name, the names asked for so far, and the count of faults.
     ghost state: { Self → ShelfState };
 
     /// The bytes of a name, at most `limit` of them.

@@ -1,6 +1,6 @@
 //! A sink over a writer of std.
 
-ghost use Rattle.std.specs.Prelude.{◌≡◌, OnOk};
+ghost use Rattle.std.specs.Prelude.{◌≡◌, ◌&&◌, OnOk, is_ok};
 ghost use Rattle.std.specs.Io.KnownBytes.{Appends};
 ghost use Rattle.dc_edge.specs.Sink.{Puts};
 ghost use Rattle.dc_edge.specs.Untold.{untold_sink};
@@ -11,7 +11,7 @@ use std::io;
 use std::io::Write;
 
 /// A sink over a writer of std, as `StdSink::new(rt.stdout())` for standard output and
-/// `StdSink::new(rt.stderr())` for standard error. It tells nothing but its count of faults.
+/// `StdSink::new(rt.stderr())` for standard error. Contracts know its count of faults alone.
 #[derive(Drop)]
 pub struct StdSink<W: Write> {
     writer: W,
@@ -32,7 +32,7 @@ impl<W: Write> StdSink<W> {
 impl<W: Write> Sink for StdSink<W> {
     ghost state = { λ s. untold_sink s.fault_count };
 
-    /// Where the writer tells what it holds, Ok has appended all bytes to that.
+    /// Where it is known what the writer holds, Ok has appended all bytes to that. A flush that fails is `Failed`.
     fn put(&mut self, bytes: &[u8]) -> Result<(), Failed>
         ensures puts { Puts bytes.now (untold_sink self.old.fault_count) (untold_sink self.new.fault_count) result }
         ensures handed { OnOk result (Appends (W.contents self.old.writer) (W.contents self.new.writer) bytes.now) }
@@ -50,10 +50,19 @@ impl<W: Write> Sink for StdSink<W> {
     }
 }
 
-// Writes again until all bytes are taken; a write that takes none is an error.
+// Writes until all bytes are taken, then flushes. A write that takes none is an error.
 fn write_whole<W: Write>(writer: &mut W, bytes: &[u8]) -> io::Result<()>
     ensures { OnOk result (Appends (W.contents writer.old) (W.contents writer.new) bytes.now) }
 {
-    writer.write_all(bytes)?;
-    writer.flush()
+    let written = writer.write_all(bytes);
+    let flushed = writer.flush();
+    both(written, flushed)
+}
+
+// Both ended well, or the first error.
+fn both(first: io::Result<()>, second: io::Result<()>) -> io::Result<()>
+    ensures { is_ok result ≡ is_ok first && is_ok second }
+{
+    first?;
+    second
 }

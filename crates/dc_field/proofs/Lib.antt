@@ -2,6 +2,7 @@ pub mod Positions
 pub mod FirstAbove
 pub mod ReaderTests
 mod Rows
+mod LimitRows
 mod Digits
 pub mod GroupLemmas
 mod WordBytes

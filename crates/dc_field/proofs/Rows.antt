@@ -7,7 +7,7 @@ use Rattle.dc_spec.specs.Words.{word_of, zero_word, word_add, word_sum}
 use Rattle.dc_spec.specs.Text.{word_text}
 use Rattle.dc_field.specs.WordInBytes.{word_of_bytes}
 use Rattle.dc_field.specs.WordInText.{word_of_text}
-use Rattle.dc_field.specs.declared.word_of_text.WordFault.TheVariants.{Length, Digit, Symbol}
+use Rattle.dc_field.specs.declared.word_from_text.WordFault.TheVariants.{Length, Digit, Symbol}
 use Rattle.dc_field.specs.NumberInText.{number_in}
 
 -- a piece, so many times

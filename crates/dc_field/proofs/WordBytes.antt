@@ -11,7 +11,7 @@ use Rattle.dc_spec.proofs.WordLemmas.{word_from_symbols}
 use Rattle.dc_spec.proofs.ByteLemmas.{number_spelled, length_of_pieces, pieces}
 use Rattle.std.proofs.lemmas.List.Folds.{flat_map-map}
 use Rattle.dc_field.proofs.FirstAbove.{none_where_small}
-use Rattle.dc_field.specs.declared.word_in_bytes.SymFault.{SymFault}
+use Rattle.dc_field.specs.declared.word_from_bytes.SymFault.{SymFault}
 use Rattle.dc_field.specs.WordInBytes.{judged, word_of_bytes}
 
 -- the number that a symbol's four bytes spell is the symbol

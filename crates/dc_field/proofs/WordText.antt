@@ -12,8 +12,8 @@ use Rattle.dc_spec.specs.Words.{IsWord, word_of}
 use Rattle.dc_spec.specs.Text.{hex_digit, symbol_text, word_text}
 use Rattle.dc_spec.proofs.WordLemmas.{word_from_symbols}
 use Rattle.dc_spec.proofs.ByteLemmas.{length_of_pieces}
-use Rattle.dc_field.specs.declared.word_of_text.WordFault.{WordFault}
-use Rattle.dc_field.specs.declared.word_of_text.WordFault.TheVariants.{Length}
+use Rattle.dc_field.specs.declared.word_from_text.WordFault.{WordFault}
+use Rattle.dc_field.specs.declared.word_from_text.WordFault.TheVariants.{Length}
 use Rattle.dc_field.specs.WordInBytes.{judged}
 use Rattle.dc_field.proofs.HexDigits.{digit_in-hex_digit, hex_digit-digit_in}
 use Rattle.dc_field.proofs.WordBytes.{none_above}

@@ -1,7 +1,7 @@
 -- Reading a word in bytes, with its first fault.
 use Rattle.std.specs.Prelude.{ℕ, List, Option, Some, None, Result, Ok, Err, nat_lt, slice_index, position}
 use Rattle.dc_spec.specs.Bytes.{word_at}
-use Rattle.dc_field.specs.declared.word_in_bytes.SymFault.{SymFault}
+use Rattle.dc_field.specs.declared.word_from_bytes.SymFault.{SymFault}
 
 -- the word of sixteen numbers, or the first that is no symbol
 abbrev pub judged : List ℕ → Option ℕ → Result (List ℕ) SymFault

@@ -2,9 +2,9 @@
 use Rattle.std.specs.Prelude.{ℕ, ◌+◌, ◌-◌, ◌*◌, ◌&&◌, ◌==◌, List, length, map, slice_index, position, Option, Some, None, Result, Ok, Err, is_none, nat_le, unwrap_or, if◌then◌else◌}
 use Rattle.dc_spec.specs.Words.{word_of}
 use Rattle.dc_field.specs.WordInBytes.{word_of_numbers}
-use Rattle.dc_field.specs.declared.word_in_bytes.SymFault.{SymFault}
-use Rattle.dc_field.specs.declared.word_of_text.WordFault.{WordFault}
-use Rattle.dc_field.specs.declared.word_of_text.WordFault.TheVariants.{Length, Digit, Symbol}
+use Rattle.dc_field.specs.declared.word_from_bytes.SymFault.{SymFault}
+use Rattle.dc_field.specs.declared.word_from_text.WordFault.{WordFault}
+use Rattle.dc_field.specs.declared.word_from_text.WordFault.TheVariants.{Length, Digit, Symbol}
 
 -- what a lower-case hexadecimal digit counts
 abbrev pub digit_in : ℕ → Option ℕ

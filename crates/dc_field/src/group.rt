@@ -1,4 +1,4 @@
-//! A group: what the stations that send values in one word add up to, a count and fifteen limbs.
+//! A group: the sum of the values that stations send in one word, as a count of stations and fifteen limbs.
 
 ghost use Rattle.std.specs.Prelude.{◌≡◌, ◌+◌, ◌-◌, ◌*◌, ◌/◌, ◌%◌, ◌^◌, ◌<◌, ◌≤◌, ◌==◌, ◌||◌, ℕ, IfOk, IfSome, OnOk, length, map, nat_lt, not, slice_index};
 ghost use Rattle.std.specs.List.{range_with_len};
@@ -31,7 +31,7 @@ impl Model for Group {
     ghost inverse = { λ g. record { count = g.count; limbs = g.limbs } };
 }
 
-/// The first thing that shows that a word is no group.
+/// The first fault of a word that is not a group.
 #[derive(Clone, Copy, Debug, PartialEq, Eq)]
 pub enum BadGroup {
     /// The count is above 256.
@@ -40,7 +40,7 @@ pub enum BadGroup {
     Limb { l: u8, seen: u32 },
 }
 
-/// The first thing that shows that a group is no part of a whole.
+/// The first fault of a group that is not a part of a whole.
 #[derive(Clone, Copy, Debug, PartialEq, Eq)]
 pub enum BadSplit {
     /// The part's count is 0 or above that of the whole.
@@ -108,7 +108,7 @@ impl Group {
         }
     }
 
-    /// What is left without a part.
+    /// The whole without a part.
     #[tactic(auto, unfolding(dc_spec::specs::Groups::minus, dc_spec::specs::Values::fifteen))]
     pub fn minus(&self, part: &Group) -> Result<Group, BadSplit>
         ensures rest { told_rest result ≡ minus self.now part.now }

@@ -9,7 +9,7 @@ use std::marker::Model;
 
 /// A list, seen by contracts as the list of what its items are seen as.
 ///
-/// It is a vector whose room and allocator contracts do not see. A crate names its lists by their items, as `Words`.
+/// It is a vector. Contracts do not see its room and its allocator. A crate names its lists by their items, as `Words`.
 #[derive(Debug, Drop)]
 pub struct Items<T> {
     items: Vec<T>,

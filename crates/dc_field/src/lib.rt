@@ -1,35 +1,36 @@
-//! Symbols, words and the list types that contracts see as plain lists.
+//! Symbols, words, values, groups, numbers in text, and the list types that contracts see as plain lists.
 #![tactic(auto)]
 
+mod bytes_of_word;
 mod group;
 mod items;
+mod limits;
 mod number;
 mod refusal;
 mod sym;
 mod syms;
 mod text;
+mod text_of_word;
 mod value;
 mod word;
-mod word_in_bytes;
-mod word_in_text;
-mod word_of_text;
-mod word_to_bytes;
+mod word_from_bytes;
+mod word_from_text;
 
+pub use bytes_of_word::word_bytes;
 pub use group::{BadGroup, BadSplit, Group};
 pub use items::{Bytes, Items, TryClone, Words};
+pub use limits::{
+    KEY_FILE_LIMIT, MANIFEST_LIMIT, MOST_COINS, MOST_LONGS, MOST_MESSAGE, MOST_PADS, MOST_SHORTS,
+    MOST_STATIONS, MOST_WORDS, PERMUTATION_LIMIT, SCRIPT_LIMIT, STREAM_LIMIT, TRANSCRIPT_LIMIT,
+    WANTED_WORDS_LIMIT, limits_are_those_of_specifications,
+};
 pub use number::read_decimal;
 pub use refusal::{NoMemory, Refusal};
 pub use sym::Sym;
 pub use syms::Syms;
 pub use text::Text;
+pub use text_of_word::word_text;
 pub use value::Value;
 pub use word::Word;
-pub use word_in_bytes::{SymFault, read_word, read_word_bytes};
-pub use word_in_text::word_text;
-pub use word_of_text::{WordFault, read_word_text};
-pub use word_to_bytes::word_bytes;
-
-#[cfg(test)]
-mod group_tests;
-#[cfg(test)]
-mod tests;
+pub use word_from_bytes::{SymFault, read_word, read_word_bytes};
+pub use word_from_text::{WordFault, read_word_text};

@@ -1,4 +1,4 @@
-//! Want of memory, and refusals that may also be for want of memory.
+//! Out of memory, alone or beside a fault.
 
 ghost use Rattle.std.specs.Prelude.{◌≡◌};
 ghost use Rattle.dc_field.specs.declared.refusal.Refusal.TheVariants.{NoMemory as no_memory};
@@ -21,7 +21,7 @@ impl<T: Drop> From<AllocFailed<T>> for NoMemory {
     }
 }
 
-/// Why a call that takes memory refused: for want of it, or by a fault of what it was given.
+/// Why a call that takes memory refused: memory ran out, or what it was given has a fault.
 #[derive(Debug, Drop)]
 pub enum Refusal<F> {
     /// Memory ran out.

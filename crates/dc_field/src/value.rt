@@ -59,7 +59,7 @@ impl Value {
     }
 }
 
-/// Puts the count times each byte in the place of symbols 1 to 15.
+/// Sets symbols 1 to 15 to the count times each byte.
 fn put_limbs(word: &mut Word, bytes: &[u8; 15], count: u32)
     requires count { count ≤ 256 }
     requires sixteen { length word.old ≡ 16 }

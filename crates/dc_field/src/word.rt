@@ -5,7 +5,7 @@ ghost use Rattle.dc_spec.specs.Words.{IsWord, word_of, zero_word, word_add, word
 ghost use Rattle.dc_field.specs.WordInBytes.{word_of_numbers};
 
 use crate::sym::Sym;
-use crate::word_in_bytes::SymFault;
+use crate::word_from_bytes::SymFault;
 use std::marker::Model;
 
 /// Sixteen symbols, seen by contracts as the list of their numbers.
@@ -104,7 +104,7 @@ impl Word {
     }
 }
 
-/// The place of the first number that is no symbol.
+/// The place of the first number that is not a symbol.
 fn first_above(numbers: &[u32]) -> Option<usize>
     ensures { result ≡ position (λ x. nat_lt 65536 x) numbers.now }
 {
@@ -122,7 +122,7 @@ fn add_to(totals: &mut [u32; 16], w: &Word)
     }
 }
 
-/// Adds to sixteen totals what the symbols of a word lack of 65537.
+/// Adds 65537 minus each symbol of a word to sixteen totals.
 fn add_negated(totals: &mut [u32; 16], w: &Word)
     requires room { (k : ℕ) → slice_index totals.old k + 65537 < 2 ^ 32 }
     ensures { (k : ℕ) → k < 16 → slice_index totals.new k ≡ slice_index totals.old k + (65537 - slice_index w.now k) }

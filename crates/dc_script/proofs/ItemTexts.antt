@@ -15,9 +15,9 @@ use Rattle.dc_spec.specs.Text.{symbol_text, word_text}
 use Rattle.dc_field.specs.NumberInText.{number_in}
 use Rattle.dc_field.specs.WordInBytes.{judged, word_of_numbers}
 use Rattle.dc_field.specs.WordInText.{digit_in, count_of, symbol_at, numbers_of, told_in_text, word_of_digits, word_of_text}
-use Rattle.dc_field.specs.declared.word_in_bytes.SymFault.{SymFault}
-use Rattle.dc_field.specs.declared.word_of_text.WordFault.{WordFault}
-use Rattle.dc_field.specs.declared.word_of_text.WordFault.TheVariants.{Length}
+use Rattle.dc_field.specs.declared.word_from_bytes.SymFault.{SymFault}
+use Rattle.dc_field.specs.declared.word_from_text.WordFault.{WordFault}
+use Rattle.dc_field.specs.declared.word_from_text.WordFault.TheVariants.{Length}
 use Rattle.dc_field.proofs.NumberText.{number_in-decimal, written_so}
 use Rattle.dc_field.proofs.FirstAbove.{IsWord-from_position}
 use Rattle.dc_field.proofs.WordText.{word_text-word_of_text, word_of_text-word_text}

@@ -6,7 +6,7 @@ use Rattle.dc_spec.specs.Words.{IsWord}
 use Rattle.dc_spec.specs.Text.{word_text}
 use Rattle.dc_field.specs.NumberInText.{number_in}
 use Rattle.dc_field.specs.WordInText.{word_of_text}
-use Rattle.dc_field.specs.declared.word_of_text.WordFault.{WordFault}
+use Rattle.dc_field.specs.declared.word_from_text.WordFault.{WordFault}
 use Rattle.dc_script.specs.declared.item.Item.{Item}
 use Rattle.dc_script.specs.declared.item.Item.TheVariants.{RoundLine, SayLine, AllLine, ToLine}
 

@@ -39,16 +39,6 @@ pub all_rounds : (b : List ℕ) (n t : ℕ) → map (λ r. word_sum (words_from 
 all_rounds b n t = fill_by_all (λ r. word_sum (take n (drop (r * n) (words_at b (t * n))))) (map (λ r. word_sum (words_from b (r * n) n)) (range_with_len 0 t)) t [] (length-map-range_with_len (λ r. word_sum (words_from b (r * n) n)) 0 t)
     (λ k lt. get_or-map-range_with_len (λ r. word_sum (words_from b (r * n) n)) 0 t k k [] lt (omega arith) ∙ ap word_sum (sym (round_of b n t k lt)))
 
--- a refusal of some words refuses all of them
-pub words_refused : (b : List ℕ) (first count total : ℕ) (words : List (List ℕ)) (refusal : Refusal TranscriptFault) → first + count ≤ total → ReadsWords b first count (Err refusal) words → Answers {X = List (List ℕ)} (Err refusal) (words_of b total)
-words_refused b first count total words NoMemory le reads = tt
-words_refused b first count total words (Bad fault) le reads = reads total le
-
--- and their sums
-pub sums_refused : (b : List ℕ) (first count total : ℕ) (words : List (List ℕ)) (sizes : Sizes) (refusal : Refusal TranscriptFault) → first + count ≤ total → ReadsWords b first count (Err refusal) words → Answers {X = List (List ℕ)} (Err refusal) (summed sizes (words_of b total))
-sums_refused b first count total words sizes NoMemory le reads = tt
-sums_refused b first count total words sizes (Bad fault) le reads = ap (λ read. summed sizes read) (reads total le)
-
 -- the sums of one round more
 pub one_round_more : (b : List ℕ) (n r : ℕ) (sums new round : List (List ℕ)) (sum : List ℕ) → sums ≡ map (λ r. word_sum (words_from b (r * n) n)) (range_with_len 0 r) → round ≡ words_from b (r * n) n → sum ≡ word_sum round → new ≡ sums ++ sum ∷ []
     → new ≡ map (λ r. word_sum (words_from b (r * n) n)) (range_with_len 0 (r + 1))

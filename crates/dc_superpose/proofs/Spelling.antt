@@ -15,12 +15,12 @@ use Rattle.std.proofs.lemmas.Slice.Eq.{bytes_eq-Decides}
 use Rattle.dc_field.specs.declared.refusal.Refusal.{Refusal}
 use Rattle.dc_field.specs.Answers.{Answers}
 use Rattle.dc_superpose.specs.declared.fault.TranscriptFault.{TranscriptFault}
-use Rattle.dc_superpose.specs.Reading.{due_length, words_at, ended, words_of, body_of, sized, transcript_of}
+use Rattle.dc_superpose.specs.Reading.{due_length, words_at, session_of_words, words_of, body_of, sized, transcript_of}
 use Rattle.std.proofs.lemmas.Bool.{not-false}
 use Rattle.std.proofs.lemmas.List.Folds.{flat_map-map}
 use Rattle.dc_spec.proofs.ByteLemmas.{IsBytes, number_spelled, short_spelled, number_again, short_again, pieces, piece_of, length_of_pieces}
 use Rattle.dc_field.proofs.ReaderTests.{passed, within, limits}
-use Rattle.dc_superpose.specs.Pieces.{AreSymbols}
+use Rattle.dc_superpose.specs.Pieces.{FirstAreSymbols}
 use Rattle.dc_superpose.proofs.Symbols.{word_in_piece, symbol-word_at, words_are_read, words_read, length-words_at, AreWords-words_at}
 
 -- ---- words
@@ -67,7 +67,7 @@ word_stands t is i lt =
 words_stand : (t : Recorded) → IsRecorded t → words_at (transcript_bytes t) (t.rounds * t.stations) ≡ t.words
 words_stand t is = sym (fill_by_all (λ i. word_at (transcript_bytes t) (8 + 64 * i)) t.words (t.rounds * t.stations) [] is.count (λ k lt. sym (word_stands t is k (rw is.count lt))))
 
-symbols_stand : (t : Recorded) → IsRecorded t → AreSymbols (transcript_bytes t) (16 * (t.rounds * t.stations))
+symbols_stand : (t : Recorded) → IsRecorded t → FirstAreSymbols (transcript_bytes t) (16 * (t.rounds * t.stations))
 symbols_stand t is = record {
   small = λ s lt.
       let i : ℕ = s / 16 in
@@ -114,10 +114,10 @@ read_as t = Ok t
 same_record : (s t : Recorded) → read_as s ≡ read_as t → s ≡ t
 same_record s t e = cc
 
-ended_well : (b : List ℕ) (stations rounds : ℕ) (read : Result (List (List ℕ)) TranscriptFault) (t : Recorded) → ended b stations rounds read ≡ Ok t
+session_of_words-Ok : (b : List ℕ) (stations rounds : ℕ) (read : Result (List (List ℕ)) TranscriptFault) (t : Recorded) → session_of_words b stations rounds read ≡ Ok t
     → (length b ≤ due_length (rounds * stations)) × (read ≡ Ok t.words) × (stations ≡ t.stations) × (rounds ≡ t.rounds)
-ended_well b stations rounds (Err fault) t e = absurd cc
-ended_well b stations rounds (Ok words) t e =
+session_of_words-Ok b stations rounds (Err fault) t e = absurd cc
+session_of_words-Ok b stations rounds (Ok words) t e =
     let made : Recorded = record { stations = stations; rounds = rounds; words = words } in
     let end = passed (ltb (due_length (rounds * stations)) (length b)) _ _ t e in
     let is : made ≡ t = same_record made t end.1 in
@@ -151,7 +151,7 @@ transcript_read b t fits e =
     let stations = passed (eqb (short_at b 4) 0 || ltb 256 (short_at b 4)) _ _ t magic.1 in
     let rounds = passed (eqb (short_at b 6) 0 || ltb 4096 (short_at b 6)) _ _ t stations.1 in
     let whole = passed (ltb (length b) (due_length (short_at b 6 * short_at b 4))) _ _ t rounds.1 in
-    let end = ended_well b (short_at b 4) (short_at b 6) _ t whole.1 in
+    let end = session_of_words-Ok b (short_at b 4) (short_at b 6) _ t whole.1 in
     let count : ℕ = short_at b 6 * short_at b 4 in
     let same : short_at b 6 * short_at b 4 ≡ t.rounds * t.stations = rw (end.2, end.3) refl in
     let read = words_read b (short_at b 6 * short_at b 4) t.words end.1 in

@@ -8,12 +8,12 @@ use Rattle.std.proofs.lemmas.List.Quantifiers.{position-Some}
 use Rattle.dc_spec.specs.Words.{AreWords}
 use Rattle.dc_spec.specs.Bytes.{number_at, word_at}
 use Rattle.dc_spec.proofs.WordLemmas.{word_of-same, length-word_of, symbol-word_of, IsWord-word_of}
-use Rattle.dc_field.specs.declared.word_in_bytes.SymFault.{SymFault}
+use Rattle.dc_field.specs.declared.word_from_bytes.SymFault.{SymFault}
 use Rattle.dc_field.specs.WordInBytes.{judged as word_judged, word_of_bytes}
 use Rattle.dc_field.proofs.FirstAbove.{small_where_none, none_where_small, first_is}
 use Rattle.dc_superpose.specs.declared.fault.TranscriptFault.TheVariants.{Symbol}
-use Rattle.dc_superpose.specs.Reading.{symbol_offset, symbols_at, words_at, judged, words_of}
-use Rattle.dc_superpose.specs.Pieces.{AreSymbols}
+use Rattle.dc_superpose.specs.Reading.{symbol_offset, symbols_at, words_at, tested_words, words_of}
+use Rattle.dc_superpose.specs.Pieces.{FirstAreSymbols}
 
 -- ---- a piece of sixty-four bytes
 
@@ -70,8 +70,8 @@ word_refused b at n fault wide e =
 
 -- ---- all the words
 
-pub AreSymbols-more : (b : List ℕ) (i : ℕ) → AreSymbols b (16 * i) → ((l : ℕ) → l < 16 → number_at b (8 + 64 * i + 4 * l) ≤ 65536) → AreSymbols b (16 * (i + 1))
-AreSymbols-more b i good here = record {
+pub FirstAreSymbols-more : (b : List ℕ) (i : ℕ) → FirstAreSymbols b (16 * i) → ((l : ℕ) → l < 16 → number_at b (8 + 64 * i + 4 * l) ≤ 65536) → FirstAreSymbols b (16 * (i + 1))
+FirstAreSymbols-more b i good here = record {
   small = λ s lt. elim (cases_lt s (16 * i)) [
     | inl below ↦ good.small s below
     | inr above ↦ let at : 8 + 64 * i + 4 * (s - 16 * i) ≡ 8 + 4 * s = omega arith in subst (λ (k : ℕ). number_at b k ≤ 65536) at (here (s - 16 * i) (omega arith))
@@ -84,12 +84,12 @@ symbol-symbols_at b count s lt = get_or-map-range_with_len (λ s. number_at b (s
 length-symbols_at : (b : List ℕ) (count : ℕ) → length (symbols_at b count) ≡ count
 length-symbols_at b count = length-map-range_with_len (λ s. number_at b (symbol_offset s)) 0 count
 
-pub words_are_read : (b : List ℕ) (count : ℕ) → AreSymbols b (16 * count) → words_of b count ≡ Ok (words_at b count)
+pub words_are_read : (b : List ℕ) (count : ℕ) → FirstAreSymbols b (16 * count) → words_of b count ≡ Ok (words_at b count)
 unfolding words_of
 words_are_read b count good =
     rw (none_where_small (symbols_at b (16 * count)) (λ k lt. let lt' : k < 16 * count = omega (arith, length-symbols_at b (16 * count)) in rw (symbol-symbols_at b (16 * count) k lt') (good.small k lt'))) refl
 
-pub first_is_told : (b : List ℕ) (count i l seen : ℕ) → i < count → l < 16 → number_at b (8 + 64 * i + 4 * l) ≡ seen → 65536 < seen → AreSymbols b (16 * i) → ((k : ℕ) → k < l → number_at b (8 + 64 * i + 4 * k) ≤ 65536)
+pub first_is_told : (b : List ℕ) (count i l seen : ℕ) → i < count → l < 16 → number_at b (8 + 64 * i + 4 * l) ≡ seen → 65536 < seen → FirstAreSymbols b (16 * i) → ((k : ℕ) → k < l → number_at b (8 + 64 * i + 4 * k) ≤ 65536)
     → words_of b count ≡ Err (Symbol (8 + 64 * i + 4 * l) seen)
 unfolding words_of
 first_is_told b count i l seen lt small is large good here =
@@ -105,21 +105,21 @@ first_is_told b count i l seen lt small is large good here =
     (λ k below. rw (symbol-symbols_at b (16 * count) k (omega arith)) (before k below)) in
     rw (found, seen_is, at) refl
 
-judged_where_none : (b : List ℕ) (count : ℕ) (o : Option ℕ) (ws : List (List ℕ)) → judged b count o ≡ Ok ws → (words_at b count ≡ ws) × (o ≡ None)
-judged_where_none b count None ws e = (cc, refl)
-judged_where_none b count (Some s) ws e = absurd cc
+tested_where_none : (b : List ℕ) (count : ℕ) (o : Option ℕ) (ws : List (List ℕ)) → tested_words b count o ≡ Ok ws → (words_at b count ≡ ws) × (o ≡ None)
+tested_where_none b count None ws e = (cc, refl)
+tested_where_none b count (Some s) ws e = absurd cc
 
 -- words that were read: those that stand there, of good symbols
-pub words_read : (b : List ℕ) (count : ℕ) (ws : List (List ℕ)) → words_of b count ≡ Ok ws → (ws ≡ words_at b count) × AreSymbols b (16 * count)
+pub words_read : (b : List ℕ) (count : ℕ) (ws : List (List ℕ)) → words_of b count ≡ Ok ws → (ws ≡ words_at b count) × FirstAreSymbols b (16 * count)
 unfolding words_of
 words_read b count ws e =
-    let parts = judged_where_none b count (position (λ x. ltb 65536 x) (symbols_at b (16 * count))) ws e in
+    let parts = tested_where_none b count (position (λ x. ltb 65536 x) (symbols_at b (16 * count))) ws e in
     (sym parts.0, record { small = λ s lt. rw (← symbol-symbols_at b (16 * count) s lt) (small_where_none (symbols_at b (16 * count)) parts.1 s (omega (arith, length-symbols_at b (16 * count)))) })
 
 pub length-words_at : (b : List ℕ) (count : ℕ) → length (words_at b count) ≡ count
 length-words_at b count = length-map-range_with_len (λ i. word_at b (8 + 64 * i)) 0 count
 
-pub AreWords-words_at : (b : List ℕ) (count : ℕ) → AreSymbols b (16 * count) → AreWords (words_at b count)
+pub AreWords-words_at : (b : List ℕ) (count : ℕ) → FirstAreSymbols b (16 * count) → AreWords (words_at b count)
 AreWords-words_at b count good i d lt =
     let within : i < count = omega (arith, length-words_at b count) in
     rw (get_or-map-range_with_len (λ i. word_at b (8 + 64 * i)) 0 count i i d within (omega arith))

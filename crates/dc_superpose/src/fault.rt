@@ -3,7 +3,7 @@
 /// The first fault of a transcript's bytes, by the order of the tests.
 #[derive(Clone, Copy, Debug, PartialEq, Eq)]
 pub enum TranscriptFault {
-    /// The file ends at this length; so many bytes are due.
+    /// The file has `at` bytes; `need` bytes are due.
     Truncated { at: u64, need: u64 },
     /// The first four bytes are not `DCT1`.
     Magic,
@@ -13,6 +13,6 @@ pub enum TranscriptFault {
     Words { seen: u16 },
     /// The first number above 65536, and its offset in the file.
     Symbol { at: u64, seen: u32 },
-    /// More bytes stand after the last word, from this offset on.
+    /// Bytes follow the last word, from this offset on.
     Rest { at: u64 },
 }

@@ -13,6 +13,3 @@ pub use reading::read_transcript;
 pub use summing::read_sums;
 pub use superposing::sums;
 pub use transcript::Transcript;
-
-#[cfg(test)]
-mod tests;

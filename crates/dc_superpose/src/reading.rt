@@ -1,11 +1,11 @@
 //! The file of a recorded session.
 
-ghost use Rattle.std.specs.Prelude.{◌≡◌, ◌+◌, ◌*◌, ◌≤◌, ◌^◌, length, IfOk, Ok};
+ghost use Rattle.std.specs.Prelude.{◌≡◌, ◌+◌, ◌*◌, ◌≤◌, ◌^◌, length, vec_capacity, IfOk, Ok};
 ghost use Rattle.dc_spec.specs.Recorded.{Recorded, IsRecorded, transcript_bytes};
 ghost use Rattle.dc_field.specs.Answers.{Answers};
 ghost use Rattle.dc_superpose.specs.Reading.{transcript_of, words_of, due_length};
-ghost use Rattle.dc_superpose.specs.Sizes.{rest_of, AreSizes};
-ghost use Rattle.dc_superpose.specs.Pieces.{AreSymbols, ReadsWords};
+ghost use Rattle.dc_superpose.specs.Sizes.{session_of_sizes, AreSizes};
+ghost use Rattle.dc_superpose.specs.Pieces.{FirstAreSymbols, ReadsWords};
 
 use crate::fault::TranscriptFault;
 use crate::sizes::{Sizes, read_sizes};
@@ -26,7 +26,7 @@ pub fn read_transcript(alloc: Global, b: &[u8]) -> Result<Transcript, Refusal<Tr
     read_in_order(alloc, b)
 }
 
-/// Judges the header and the length, then reads on.
+/// Tests the header and the length, then reads on.
 fn read_in_order(alloc: Global, b: &[u8]) -> Result<Transcript, Refusal<TranscriptFault>>
     ensures { Answers result (transcript_of b.now) }
 {
@@ -36,16 +36,17 @@ fn read_in_order(alloc: Global, b: &[u8]) -> Result<Transcript, Refusal<Transcri
     }
 }
 
-/// Judges the words, then the end.
+/// Tests the words, then the end.
 fn read_body(alloc: Global, b: &[u8], sizes: Sizes) -> Result<Transcript, Refusal<TranscriptFault>>
     requires { AreSizes b.now sizes }
-    ensures { Answers result (rest_of b.now (Ok sizes)) }
+    ensures { Answers result (session_of_sizes b.now (Ok sizes)) }
 {
     let count = sizes.rounds as usize * sizes.stations as usize;
-    let due = 8 + 64 * count;
     let words = read_words(alloc, b, count)?;
-    if due < b.len() {
-        return Err(Refusal::Bad(TranscriptFault::Rest { at: due as u64 }));
+    if sizes.due < b.len() {
+        return Err(Refusal::Bad(TranscriptFault::Rest {
+            at: sizes.due as u64,
+        }));
     }
     Ok(Transcript {
         stations: sizes.stations,
@@ -61,34 +62,36 @@ fn read_words(alloc: Global, b: &[u8], count: usize) -> Result<Words, Refusal<Tr
     ensures { Answers result (words_of b.now count) }
 {
     let mut words = Vec::with_capacity(alloc, count)?;
-    match put_words(b, 0, count, &mut words) {
+    match fill_words(b, 0, count, &mut words) {
         Ok(()) => Ok(Words::from_vec(words)),
-        Err(refusal) => Err(refusal),
+        Err(fault) => Err(Refusal::Bad(fault)),
     }
 }
 
-/// Puts the words from word number `first` on in place of what a list holds.
-pub fn put_words(
+/// Fills a list with the words from word number `first` on, in place of what it held and in the room that it has.
+pub(crate) fn fill_words(
     b: &[u8],
     first: usize,
     count: usize,
     words: &mut Vec<Word>,
-) -> Result<(), Refusal<TranscriptFault>>
+) -> Result<(), TranscriptFault>
     requires most { first + count ≤ 2 ^ 20 }
     requires long_enough { due_length (first + count) ≤ length b.now }
-    requires good { AreSymbols b.now (16 * first) }
-    ensures { ReadsWords b.now first count result words.new.items }
+    requires good { FirstAreSymbols b.now (16 * first) }
+    requires room { count ≤ vec_capacity words.old }
+    ensures words { ReadsWords b.now first count result words.new.items }
+    ensures room { vec_capacity words.new ≡ vec_capacity words.old }
 {
     words.clear();
     for j in 0..count {
         let at = 8 + 64 * (first + j);
         match read_word(&b[at..at + 64]) {
-            Ok(word) => words.push(word)?,
+            Ok(word) => words.push_reserved(word),
             Err(fault) => {
-                return Err(Refusal::Bad(TranscriptFault::Symbol {
+                return Err(TranscriptFault::Symbol {
                     at: at as u64 + 4 * u64::from(fault.symbol),
                     seen: fault.seen,
-                }));
+                });
             }
         }
     }

@@ -4,10 +4,10 @@ ghost use Rattle.std.specs.Prelude.{◌≡◌, ◌*◌, Ok};
 ghost use Rattle.dc_spec.specs.Recorded.{Recorded, IsRecorded, transcript_bytes, superposed};
 ghost use Rattle.dc_field.specs.Answers.{Answers};
 ghost use Rattle.dc_superpose.specs.Reading.{transcript_of, words_of};
-ghost use Rattle.dc_superpose.specs.Sizes.{rest_of, AreSizes, sums_of, summed, GivesSums};
+ghost use Rattle.dc_superpose.specs.Sizes.{session_of_sizes, AreSizes, sums_of, summed, GivesSums};
 
 use crate::fault::TranscriptFault;
-use crate::reading::put_words;
+use crate::reading::fill_words;
 use crate::sizes::{Sizes, read_sizes};
 use dc_field::{Refusal, Word, Words};
 use std::alloc::Global;
@@ -23,7 +23,7 @@ pub fn read_sums(alloc: Global, b: &[u8]) -> Result<Words, Refusal<TranscriptFau
     sum_in_order(alloc, b)
 }
 
-/// Judges the header and the length, then sums.
+/// Tests the header and the length, then sums.
 fn sum_in_order(alloc: Global, b: &[u8]) -> Result<Words, Refusal<TranscriptFault>>
     ensures { Answers result (sums_of (transcript_of b.now)) }
 {
@@ -33,15 +33,16 @@ fn sum_in_order(alloc: Global, b: &[u8]) -> Result<Words, Refusal<TranscriptFaul
     }
 }
 
-/// Judges the words and sums them round by round, then judges the end.
+/// Tests the words and sums them round by round, then tests the end.
 fn sum_body(alloc: Global, b: &[u8], sizes: Sizes) -> Result<Words, Refusal<TranscriptFault>>
     requires { AreSizes b.now sizes }
-    ensures { Answers result (sums_of (rest_of b.now (Ok sizes))) }
+    ensures { Answers result (sums_of (session_of_sizes b.now (Ok sizes))) }
 {
-    let due = 8 + 64 * (sizes.rounds as usize * sizes.stations as usize);
     let sums = sum_rounds(alloc, b, sizes)?;
-    if due < b.len() {
-        return Err(Refusal::Bad(TranscriptFault::Rest { at: due as u64 }));
+    if sizes.due < b.len() {
+        return Err(Refusal::Bad(TranscriptFault::Rest {
+            at: sizes.due as u64,
+        }));
     }
     Ok(sums)
 }
@@ -55,9 +56,9 @@ fn sum_rounds(alloc: Global, b: &[u8], sizes: Sizes) -> Result<Words, Refusal<Tr
     let mut sums = Vec::with_capacity(alloc, sizes.rounds as usize)?;
     let mut round = Vec::with_capacity(alloc, stations)?;
     for r in 0..sizes.rounds as usize {
-        match put_words(b, r * stations, stations, &mut round) {
-            Ok(()) => sums.push(Word::sum(round.as_slice()))?,
-            Err(refusal) => return Err(refusal),
+        match fill_words(b, r * stations, stations, &mut round) {
+            Ok(()) => sums.push_reserved(Word::sum(round.as_slice())),
+            Err(fault) => return Err(Refusal::Bad(fault)),
         }
     }
     Ok(Words::from_vec(sums))

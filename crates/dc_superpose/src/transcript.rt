@@ -5,8 +5,7 @@ ghost use Rattle.dc_spec.specs.Recorded.{IsRecorded};
 use dc_field::Words;
 use std::marker::Model;
 
-/// All published words of a session. The word of station `i` in round `t` stands at
-/// `t * stations + i`.
+/// All published words of a session. The word of station `i` in round `t` has index `t * stations + i`.
 #[derive(Debug, Drop)]
 pub struct Transcript {
     /// 1 to 256.

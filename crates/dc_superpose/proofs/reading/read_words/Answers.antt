@@ -1,17 +1,16 @@
 use Rattle.std.proofs.Common.{◌≡◌, ◌+◌, ◌*◌, ℕ, subst, arith}
-use Rattle.dc_superpose.specs.Pieces.{AreSymbols}
+use Rattle.dc_superpose.specs.Pieces.{FirstAreSymbols}
 use Rattle.dc_superpose.proofs.Symbols.{words_are_read}
-use Rattle.dc_superpose.proofs.Rounds.{words_refused}
 use Rattle.dc_superpose.proofs.reading.read_words.Goals as goal
 
-pub put_words-requires-clause-good : goal.put_words-requires-clause-good
-put_words-requires-clause-good c = record { small = λ s lt. absurd (omega arith) }
+pub fill_words-requires-clause-good : goal.fill_words-requires-clause-good
+fill_words-requires-clause-good c = record { small = λ s lt. absurd (omega arith) }
 
 pub returns-in-Ok : goal.returns-in-Ok
 returns-in-Ok c =
     let all : 0 + c.args.count ≡ c.args.count = omega arith in
-    let good : AreSymbols c.args.b.now (16 * c.args.count) = subst (λ (n : ℕ). AreSymbols c.args.b.now (16 * n)) all c.in-Ok.ensures.1 in
-    rw (c.from_vec.ensures, c.in-Ok.ensures.0) (words_are_read c.args.b.now c.args.count good)
+    let good : FirstAreSymbols c.args.b.now (16 * c.args.count) = subst (λ (n : ℕ). FirstAreSymbols c.args.b.now (16 * n)) all c.in-Ok.ensures.words.1 in
+    rw (c.from_vec.ensures, c.in-Ok.ensures.words.0) (words_are_read c.args.b.now c.args.count good)
 
 pub returns-in-Err : goal.returns-in-Err
-returns-in-Err c = words_refused c.args.b.now 0 c.args.count c.args.count _ c.in-Err.refusal (omega arith) c.in-Err.ensures
+returns-in-Err c = c.in-Err.ensures.words c.args.count (omega arith)

@@ -11,5 +11,8 @@ one_more words stations r n sums new sum width so_far here pushed =
     pushed ∙ rw (so_far, here, width) (sym (map-range_with_len_more (λ r. word_sum (take stations (drop (r * stations) words))) 0 r r (omega arith)))
 
 pub loop-r-preserved : goal.loop-r-preserved
-loop-r-preserved c =
-    one_more c.as_slice-words.result.now c.t.inside.stations c.loop-r.r _ c.loop-r.sums.items _ c.sum.result (omega arith) c.loop-r.invariant c.sum.ensures c.in_ok-push.ensures.items
+loop-r-preserved c = record {
+  sums = one_more c.as_slice-words.result.now c.t.inside.stations c.loop-r.r _ c.loop-r.sums.items _ c.sum.result (omega arith) c.loop-r.invariant.sums c.sum.ensures c.push_reserved.ensures.items;
+  len = omega arith;
+  room = omega arith;
+}

@@ -1,4 +1,4 @@
--- A read that is not to fail answers by what the name holds.
+-- A read that is not to fail answers by the bytes under the name.
 use Rattle.std.proofs.Common.{arith, ◌≡◌, ◌==◌, ℕ, Bool, true, false, if◌then◌else◌, nat_le, List, length, Option, Some, None, Result, Ok, Err}
 use Rattle.std.proofs.lemmas.Grind.{common_steps}
 use Rattle.std.specs.List.{list_any}
@@ -7,12 +7,12 @@ use Rattle.dc_edge.specs.declared.fault.ShelfFault.TheVariants.{Missing, TooLong
 use Rattle.dc_edge.specs.ShelfBook.{ShelfBook, book_asked, held_bytes, answer_of, read_of, ReadsBook}
 use Rattle.dc_edge.proofs.memory_shelf.MemoryShelfShelf.read.Goals as goal
 
--- a choice between bytes and a fault is no want of memory
+-- a choice between bytes and a fault is not NoMemory
 choice-is-answer : (b : Bool) (bytes : List ℕ) → Err NoMemory ≡ (if b then Ok bytes else Err TooLong) → ⊥
 choice-is-answer true bytes e = cc
 choice-is-answer false bytes e = cc
 
--- no answer by what a name holds is want of memory
+-- no answer by the bytes under a name is NoMemory
 answer-is-no-want : (o : Option (List ℕ)) (limit : ℕ) → Err NoMemory ≡ answer_of o limit → ⊥
 answer-is-no-want None limit e = cc
 answer-is-no-want (Some bytes) limit e = choice-is-answer (nat_le (length bytes) limit) bytes e

@@ -1,0 +1,12 @@
+use Rattle.std.proofs.Common.{rules}
+use Rattle.dc_cli.proofs.PutLemmas.{Puts-then, Puts-stops}
+use Rattle.dc_cli.proofs.fault_line.put_whole_line.Goals as goal
+
+pub returns-in_err-put : goal.returns-in_err-put
+returns-in_err-put g c = Puts-stops _ _ _ _ _ _ c.in_err-put.ensures (search rules)
+
+pub returns-in_err-put_outcome_text : goal.returns-in_err-put_outcome_text
+returns-in_err-put_outcome_text g c = Puts-then _ _ _ _ _ _ _ c.in_ok-put.ensures (Puts-stops _ _ _ _ _ _ c.in_err-put_outcome_text.ensures (search rules))
+
+pub returns : goal.returns
+returns g c = Puts-then _ _ _ _ _ _ _ c.in_ok-put.ensures (Puts-then _ _ _ _ _ _ _ c.in_ok-put_outcome_text.ensures c.put-2.ensures)
