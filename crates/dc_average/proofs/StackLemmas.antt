@@ -7,7 +7,7 @@ use Rattle.std.proofs.lemmas.Bool.{cases_lt, le-ltb}
 use Rattle.std.proofs.lemmas.Bool.Decides.{nat_tests}
 use Rattle.dc_spec.specs.Groups.{first_place, Group, limb, uneven_limb}
 use Rattle.dc_station_rules.specs.Epochs.{Ranged, leaf_of}
-use Rattle.dc_average.specs.Stacks.{AreOfSome, IsStack, count_of, counts_in}
+use Rattle.dc_average.specs.Stacks.{AreOfSome, IsStack, stations_of, stations_in}
 use Rattle.dc_average.specs.Items.{a_group, from_open, leaves_in, groups_in}
 
 -- without its top
@@ -19,11 +19,11 @@ pub IsStack-nil : IsStack []
 IsStack-nil = record { some = tt; few = omega arith }
 
 -- with one more group
-pub IsStack-push : (top : Ranged) (rest : List Ranged) → IsStack rest → 1 ≤ count_of top → count_of top + counts_in rest ≤ 256 → IsStack (top ∷ rest)
+pub IsStack-push : (top : Ranged) (rest : List Ranged) → IsStack rest → 1 ≤ stations_of top → stations_of top + stations_in rest ≤ 256 → IsStack (top ∷ rest)
 IsStack-push top rest is some few = record { some = (some, is.some); few = omega arith }
 
 -- at most as many groups as stations
-pub length-stack : (items : List Ranged) → AreOfSome items → length items ≤ counts_in items
+pub length-stack : (items : List Ranged) → AreOfSome items → length items ≤ stations_in items
 length-stack [] all = omega arith
 length-stack (item ∷ items) all = let rest = length-stack items all.1 in let here = all.0 in omega arith
 
@@ -56,27 +56,27 @@ is_one : (n : ℕ) → n ≡ 1 → eqb n 1 ≡ true
 is_one n one = grind (arith, nat_tests)
 
 -- where the top is of one station, its leaf comes out, and the same groups wait without it
-pub counts-single : (stack : List Ranged) (top : Ranged) → slice_get stack 0 ≡ Some top → count_of top ≡ 1 → counts_in stack ≡ 1 + counts_in (drop 1 stack)
+pub counts-single : (stack : List Ranged) (top : Ranged) → slice_get stack 0 ≡ Some top → stations_of top ≡ 1 → stations_in stack ≡ 1 + stations_in (drop 1 stack)
 counts-single [] top is one = absurd cc
 counts-single (place ∷ rest) top is one =
     let same : place ≡ top = cc in
-    let one' : place.group.count ≡ 1 = ap count_of same ∙ one in
-    ap (λ n. n + counts_in rest) one'
+    let one' : place.group.count ≡ 1 = ap stations_of same ∙ one in
+    ap (λ n. n + stations_in rest) one'
 
 -- a top of one station does not wait
-pub from_open-single : (stack : List Ranged) (top : Ranged) → slice_get stack 0 ≡ Some top → count_of top ≡ 1 → from_open (map a_group (drop 1 stack)) ≡ from_open (map a_group stack)
+pub from_open-single : (stack : List Ranged) (top : Ranged) → slice_get stack 0 ≡ Some top → stations_of top ≡ 1 → from_open (map a_group (drop 1 stack)) ≡ from_open (map a_group stack)
 from_open-single [] top is one = absurd cc
 from_open-single (place ∷ rest) top is one =
     let same : place ≡ top = cc in
-    let small : ltb place.group.count 2 ≡ true = below_two place.group.count (ap count_of same ∙ one) in
+    let small : ltb place.group.count 2 ≡ true = below_two place.group.count (ap stations_of same ∙ one) in
     rw small refl
 
 -- a top of one station gives its leaf first
-pub leaves_in-single : (stack : List Ranged) (top : Ranged) → slice_get stack 0 ≡ Some top → count_of top ≡ 1 → leaf_of top.group top.low top.high ∷ leaves_in (map a_group (drop 1 stack)) ≡ leaves_in (map a_group stack)
+pub leaves_in-single : (stack : List Ranged) (top : Ranged) → slice_get stack 0 ≡ Some top → stations_of top ≡ 1 → leaf_of top.group top.low top.high ∷ leaves_in (map a_group (drop 1 stack)) ≡ leaves_in (map a_group stack)
 leaves_in-single [] top is one = absurd cc
 leaves_in-single (place ∷ rest) top is one =
     let same : place ≡ top = cc in
-    let one' : place.group.count ≡ 1 = ap count_of same ∙ one in
+    let one' : place.group.count ≡ 1 = ap stations_of same ∙ one in
     let small : ltb place.group.count 2 ≡ true = below_two place.group.count one' in
     let single : eqb place.group.count 1 ≡ true = is_one place.group.count one' in
     rw (small, single) (ap (λ (p : Ranged). leaf_of p.group p.low p.high ∷ leaves_in (map a_group rest)) (sym same))
@@ -87,23 +87,23 @@ groups_in-map [] = refl
 groups_in-map (item ∷ items) = ap (λ zs. item ∷ zs) (groups_in-map items)
 
 -- a stack whose top is not of one station waits as it is
-pub from_open-waits : (stack : List Ranged) → AreOfSome stack → ((top : Ranged) → slice_get stack 0 ≡ Some top → count_of top ≡ 1 → ⊥) → stack ≡ from_open (map a_group stack)
+pub from_open-waits : (stack : List Ranged) → AreOfSome stack → ((top : Ranged) → slice_get stack 0 ≡ Some top → stations_of top ≡ 1 → ⊥) → stack ≡ from_open (map a_group stack)
 from_open-waits [] some none = refl
 from_open-waits (place ∷ rest) some none =
     rw (from_two place.group.count some.0 (none place refl)) (ap (λ zs. place ∷ zs) (sym (groups_in-map rest)))
 
 -- a stack whose top is not of one station gives no leaf
-pub leaves_in-waits : (stack : List Ranged) → AreOfSome stack → ((top : Ranged) → slice_get stack 0 ≡ Some top → count_of top ≡ 1 → ⊥) → leaves_in (map a_group stack) ≡ []
+pub leaves_in-waits : (stack : List Ranged) → AreOfSome stack → ((top : Ranged) → slice_get stack 0 ≡ Some top → stations_of top ≡ 1 → ⊥) → leaves_in (map a_group stack) ≡ []
 leaves_in-waits [] some none = refl
 leaves_in-waits (place ∷ rest) some none = rw (from_two place.group.count some.0 (none place refl)) refl
 
 -- there is no top, or another one
-pub no_top : (stack : List Ranged) → None ≡ slice_get stack 0 → (top : Ranged) → slice_get stack 0 ≡ Some top → count_of top ≡ 1 → ⊥
+pub no_top : (stack : List Ranged) → None ≡ slice_get stack 0 → (top : Ranged) → slice_get stack 0 ≡ Some top → stations_of top ≡ 1 → ⊥
 no_top stack none top is one = let e : None ≡ Some top = none ∙ is in cc
 
 -- a top that is not of one station
-pub other_top : (stack : List Ranged) (place : Ranged) → Some place ≡ slice_get stack 0 → (count_of place ≡ 1 → ⊥) → (top : Ranged) → slice_get stack 0 ≡ Some top → count_of top ≡ 1 → ⊥
-other_top stack place here more top is one = let same : place ≡ top = cc in more (ap count_of same ∙ one)
+pub other_top : (stack : List Ranged) (place : Ranged) → Some place ≡ slice_get stack 0 → (stations_of place ≡ 1 → ⊥) → (top : Ranged) → slice_get stack 0 ≡ Some top → stations_of top ≡ 1 → ⊥
+other_top stack place here more top is one = let same : place ≡ top = cc in more (ap stations_of same ∙ one)
 
 -- a test that always fails finds nothing
 find-none : (test : ℕ → Bool) (xs : List ℕ) → ((x : ℕ) → test x ≡ false) → find test xs ≡ None
@@ -120,6 +120,6 @@ unfolding first_place
 uneven_limb-single group one = find-none (λ i. not (eqb (limb group i % group.count) 0)) (range_with_len 0 15) (λ i. even_by_one (limb group i) group.count one)
 
 -- the top is of one station or more
-pub top_some : (stack : List Ranged) (top : Ranged) → AreOfSome stack → Some top ≡ slice_get stack 0 → 1 ≤ count_of top
+pub top_some : (stack : List Ranged) (top : Ranged) → AreOfSome stack → Some top ≡ slice_get stack 0 → 1 ≤ stations_of top
 top_some [] top some here = absurd cc
-top_some (place ∷ rest) top some here = let same : place ≡ top = cc in subst (λ (p : Ranged). 1 ≤ count_of p) same some.0
+top_some (place ∷ rest) top some here = let same : place ≡ top = cc in subst (λ (p : Ranged). 1 ≤ stations_of p) same some.0

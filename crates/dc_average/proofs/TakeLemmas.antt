@@ -7,7 +7,7 @@ use Rattle.dc_station_rules.specs.Epochs.{Leaf, EpochFault, Tree, unsplit, Range
 use Rattle.dc_average.specs.declared.ask.Step.{Step}
 use Rattle.dc_average.specs.Items.{Item, a_group, items_of, groups_in, from_open, leaves_in}
 use Rattle.dc_average.specs.StandsFor.{State, is_empty, is_done, state_of, StandsFor}
-use Rattle.dc_average.specs.Answers.{LeadsTo, LeftBy, root_tree, step_with}
+use Rattle.dc_average.specs.Answers.{StepLeadsTo, LeftBy, root_tree, step_with}
 use Rattle.dc_station_rules.proofs.Pushes.{epoch_of-push}
 use Rattle.dc_average.proofs.ItemLemmas.{first, current-first, from_open-after, leaves_in-after, come_out-leaves, Grafted, cut_of, cut_from_open, cut_come_out, cut_groups, groups_are, IsOrdered, epoch_of-ordered}
 
@@ -67,11 +67,11 @@ calls_kept value (void_epoch out fault) whole rest kept = absurd (none_apart who
 -- how an epoch goes on at a word, by what the word left
 pub record Taken (before after : Epoch) (stack : List Ranged) (out : List Leaf) (step : Step) : Type 0 where
   pub kept : record { begun = true; waiting = stack } ≡ state_of after
-  pub leads : LeadsTo step after
+  pub leads : StepLeadsTo step after
   pub came_out : out ≡ drop (length (leaves before)) (leaves after)
 
 -- the step by the groups that wait
-leads_by : (stack : List Ranged) (t : Tree) → stack ≡ from_open (items_of t) → LeadsTo (step_with stack) (resolving t)
+leads_by : (stack : List Ranged) (t : Tree) → stack ≡ from_open (items_of t) → StepLeadsTo (step_with stack) (resolving t)
 leads_by [] t kept = (t, (refl, ap is_none (current-first t ∙ ap first (sym kept))))
 leads_by (place ∷ rest) t kept = ap is_none (current-first t ∙ ap first (sym kept))
 
@@ -124,7 +124,7 @@ resolved_by (resolving t) word whole rest stack out step ordered kept left =
 -- what holds of the epoch with one more word
 pub record WithWord (words : List (List ℕ)) (word : List ℕ) (stack : List Ranged) (out : List Leaf) (step : Step) : Type 0 where
   pub stands : StandsFor (record { begun = true; waiting = stack }) (words ++ word ∷ [])
-  pub leads : LeadsTo step (epoch_of (words ++ word ∷ []))
+  pub leads : StepLeadsTo step (epoch_of (words ++ word ∷ []))
   pub came_out : out ≡ leaves_at words word
 
 -- the same, said of all words so far

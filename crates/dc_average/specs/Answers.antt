@@ -15,10 +15,10 @@ use Rattle.dc_average.specs.declared.answer.Answer.TheVariants.{Alike, Split}
 use Rattle.dc_average.specs.Items.{a_group, items_of, from_open, leaves_in}
 
 -- what is asked for
-abbrev pub told_ask : Ask → Asked
-told_ask Root = for_root
-told_ask (AtMost mean) = for_at_most mean
-told_ask Over = for_nothing
+abbrev pub asked_of : Ask → Asked
+asked_of Root = for_root
+asked_of (AtMost mean) = for_at_most mean
+asked_of Over = for_nothing
 
 -- whether it is nothing
 abbrev pub is_nothing : Ask → Bool
@@ -27,31 +27,31 @@ is_nothing (AtMost mean) = false
 is_nothing Over = true
 
 -- the check that a word broke
-abbrev pub told_fault : BadWord → EpochFault
-told_fault (bad_group fault) = no_group (group_fault fault)
-told_fault (bad_split fault) = no_part (split_fault fault)
-told_fault (bad_limb l seen) = uneven l seen
+abbrev pub epoch_fault_of : BadWord → EpochFault
+epoch_fault_of (bad_group fault) = no_group (group_fault fault)
+epoch_fault_of (bad_split fault) = no_part (split_fault fault)
+epoch_fault_of (bad_limb l seen) = uneven l seen
 
 -- a step leads to an epoch: one that goes on, one that is whole, or one that is void by this check
-abbrev pub LeadsTo : Step → Epoch → Type 0
-LeadsTo Went epoch = is_over epoch ≡ false
-LeadsTo Ended epoch = (tree : Tree) × ((epoch ≡ resolving tree) × (is_over epoch ≡ true))
-LeadsTo (Void why) epoch = (out : List Leaf) × (epoch ≡ void_epoch out (told_fault why))
+abbrev pub StepLeadsTo : Step → Epoch → Type 0
+StepLeadsTo Went epoch = is_over epoch ≡ false
+StepLeadsTo Ended epoch = (tree : Tree) × ((epoch ≡ resolving tree) × (is_over epoch ≡ true))
+StepLeadsTo (Void why) epoch = (out : List Leaf) × (epoch ≡ void_epoch out (epoch_fault_of why))
 
 -- what a word made of the current group
-abbrev pub told_leaf : Result Leaf BadWord → Result Tree EpochFault
-told_leaf (Ok leaf) = Ok (alike leaf)
-told_leaf (Err why) = Err (told_fault why)
+abbrev pub leaf_result_of : Result Leaf BadWord → Result Tree EpochFault
+leaf_result_of (Ok leaf) = Ok (alike leaf)
+leaf_result_of (Err why) = Err (epoch_fault_of why)
 
-abbrev pub told_answer : Result Answer BadWord → Result Tree EpochFault
-told_answer (Ok (Alike leaf)) = Ok (alike leaf)
-told_answer (Ok (Split left right)) = Ok (parts (unsplit left.group left.low left.high) (unsplit right.group right.low right.high))
-told_answer (Err why) = Err (told_fault why)
+abbrev pub answer_result_of : Result Answer BadWord → Result Tree EpochFault
+answer_result_of (Ok (Alike leaf)) = Ok (alike leaf)
+answer_result_of (Ok (Split left right)) = Ok (parts (unsplit left.group left.low left.high) (unsplit right.group right.low right.high))
+answer_result_of (Err why) = Err (epoch_fault_of why)
 
 -- of how many stations an answer is
-abbrev pub counts_of : Answer → ℕ
-counts_of (Alike leaf) = leaf.times
-counts_of (Split left right) = left.group.count + right.group.count
+abbrev pub stations_of_answer : Answer → ℕ
+stations_of_answer (Alike leaf) = leaf.times
+stations_of_answer (Split left right) = left.group.count + right.group.count
 
 -- its leaf, or each of its groups, is of one station or more
 abbrev pub IsOfSome : Answer → Type 0
@@ -70,5 +70,5 @@ step_with (place ∷ rest) = Went
 
 -- what a word leaves: after a fault nothing; else the groups that still wait, and the leaves that came out
 abbrev pub LeftBy : Result Tree EpochFault → List Ranged → List Ranged → List Leaf → Step → Type 0
-LeftBy (Err fault) rest stack out step = (why : BadWord) × ((step ≡ Void why) × (fault ≡ told_fault why) × (stack ≡ []) × (out ≡ []))
+LeftBy (Err fault) rest stack out step = (why : BadWord) × ((step ≡ Void why) × (fault ≡ epoch_fault_of why) × (stack ≡ []) × (out ≡ []))
 LeftBy (Ok tree) rest stack out step = (stack ≡ from_open (items_of tree ++ map a_group rest)) × (out ≡ leaves_in (items_of tree ++ map a_group rest)) × (step ≡ step_with stack)

@@ -3,8 +3,8 @@
 ghost use Rattle.std.specs.Prelude.{◌≡◌, ◌+◌, ◌<◌, ◌≤◌, IfOk, IfSome};
 ghost use Rattle.dc_spec.specs.Groups.{uneven_limb};
 ghost use Rattle.dc_station_rules.specs.Epochs.{answered, judged_alike, mean_of, split_at};
-ghost use Rattle.dc_average.specs.Stacks.{count_of};
-ghost use Rattle.dc_average.specs.Answers.{IsOfSome, counts_of, told_answer, told_leaf};
+ghost use Rattle.dc_average.specs.Stacks.{stations_of};
+ghost use Rattle.dc_average.specs.Answers.{IsOfSome, stations_of_answer, answer_result_of, leaf_result_of};
 
 use crate::ask::BadWord;
 use crate::leaf::Leaf;
@@ -28,9 +28,9 @@ pub(crate) enum Answer {
 /// What its word makes of a group: its stations sent again where their numbers are at most the mean.
 #[tactic(auto, unfolding(dc_station_rules::specs::Epochs::answered))]
 pub(crate) fn answer_to(whole: &RangedGroup, w: &Word) -> Result<Answer, BadWord>
-    requires { 1 ≤ count_of whole.now }
-    ensures answer { told_answer result ≡ answered whole.now.group whole.now.low whole.now.high w.now }
-    ensures counts { IfOk result (λ answer. counts_of answer ≡ count_of whole.now) }
+    requires { 1 ≤ stations_of whole.now }
+    ensures answer { answer_result_of result ≡ answered whole.now.group whole.now.low whole.now.high w.now }
+    ensures counts { IfOk result (λ answer. stations_of_answer answer ≡ stations_of whole.now) }
     ensures some { IfOk result IsOfSome }
 {
     let left = match Group::of_word(w) {
@@ -52,8 +52,8 @@ pub(crate) fn answer_to(whole: &RangedGroup, w: &Word) -> Result<Answer, BadWord
 
 /// A group whose stations all sent again.
 fn alike(whole: &RangedGroup) -> Result<Leaf, BadWord>
-    requires { 1 ≤ count_of whole.now }
-    ensures { told_leaf result
+    requires { 1 ≤ stations_of whole.now }
+    ensures { leaf_result_of result
         ≡ judged_alike whole.now.group whole.now.low whole.now.high (uneven_limb whole.now.group) }
 {
     match first_uneven(&whole.group) {
@@ -79,10 +79,10 @@ fn first_uneven(group: &Group) -> Option<usize>
 fn split(whole: &RangedGroup, left: Group, right: Group) -> Answer
     requires left { 1 ≤ left.count }
     requires right { 1 ≤ right.count }
-    requires whole { left.count + right.count ≡ count_of whole.now }
-    ensures parts { told_answer (Ok result)
+    requires whole { left.count + right.count ≡ stations_of whole.now }
+    ensures parts { answer_result_of (Ok result)
         ≡ Ok (split_at (mean_of whole.now.group) whole.now.low whole.now.high left right) }
-    ensures counts { counts_of result ≡ count_of whole.now }
+    ensures counts { stations_of_answer result ≡ stations_of whole.now }
     ensures some { IsOfSome result }
 {
     let mean = whole.mean();

@@ -3,10 +3,10 @@
 ghost use Rattle.std.specs.Prelude.{◌≡◌, ℕ, ◌+◌, ◌<◌, ◌≤◌, false, List, [], ◌∷◌, ◌++◌, IfNone, IfOk, IfSome, length, map, slice_get};
 ghost use Rattle.dc_spec.specs.Groups.{group_of};
 ghost use Rattle.dc_station_rules.specs.Epochs.{Ranged, answered, asked, calls, epoch_of, leaves_at};
-ghost use Rattle.dc_average.specs.Stacks.{IsStack, count_of, counts_in};
+ghost use Rattle.dc_average.specs.Stacks.{IsStack, stations_of, stations_in};
 ghost use Rattle.dc_average.specs.Items.{a_group, from_open, leaves_in};
 ghost use Rattle.dc_average.specs.StandsFor.{StandsFor, is_done};
-ghost use Rattle.dc_average.specs.Answers.{IsOfSome, LeadsTo, LeftBy, counts_of, is_nothing, root_tree, step_with, told_answer, told_ask};
+ghost use Rattle.dc_average.specs.Answers.{IsOfSome, StepLeadsTo, LeftBy, stations_of_answer, is_nothing, root_tree, step_with, answer_result_of, asked_of};
 
 use crate::answer::{Answer, answer_to};
 use crate::ask::{Ask, BadWord, Step};
@@ -60,7 +60,7 @@ impl Epoch {
     /// What the next word is asked for.
     pub fn ask(&self) -> Ask
         ensures ask { (words : List (List ℕ)) → StandsFor self.now words →
-            told_ask result ≡ asked (epoch_of words) }
+            asked_of result ≡ asked (epoch_of words) }
         ensures over { is_nothing result ≡ is_done self.now }
     {
         if !self.begun {
@@ -93,7 +93,7 @@ impl Epoch {
         ensures stands { (words : List (List ℕ)) → StandsFor self.old words →
             StandsFor self.new (words ++ w.now ∷ []) }
         ensures step { (words : List (List ℕ)) → StandsFor self.old words →
-            LeadsTo result (epoch_of (words ++ w.now ∷ [])) }
+            StepLeadsTo result (epoch_of (words ++ w.now ∷ [])) }
         ensures leaves { (words : List (List ℕ)) → StandsFor self.old words →
             out.new ≡ leaves_at words w.now }
     {
@@ -149,10 +149,10 @@ fn resolve(stack: &mut Stack, w: &Word, out: &mut Leaves) -> Step
 
 /// Puts an answer in the place of the group that it is for.
 fn grow(stack: &mut Stack, answer: &Answer, out: &mut Leaves) -> Step
-    requires room { counts_of answer.now + counts_in stack.old ≤ 256 }
+    requires room { stations_of_answer answer.now + stations_in stack.old ≤ 256 }
     requires some { IsOfSome answer.now }
     requires out { out.old ≡ [] }
-    ensures { LeftBy (told_answer (Ok answer.now)) stack.old stack.new out.new result }
+    ensures { LeftBy (answer_result_of (Ok answer.now)) stack.old stack.new out.new result }
 {
     match answer {
         Answer::Alike { leaf } => {
@@ -169,7 +169,7 @@ fn grow(stack: &mut Stack, answer: &Answer, out: &mut Leaves) -> Step
 
 /// Lets out the leaves of the groups of one station that stand on top.
 fn settle(stack: &mut Stack, out: &mut Leaves) -> Step
-    requires { length out.old + counts_in stack.old ≤ 256 }
+    requires { length out.old + stations_in stack.old ≤ 256 }
     ensures stack { stack.new ≡ from_open (map a_group stack.old) }
     ensures leaves { out.new ≡ out.old ++ leaves_in (map a_group stack.old) }
     ensures step { result ≡ step_with stack.new }
@@ -186,7 +186,7 @@ fn settle(stack: &mut Stack, out: &mut Leaves) -> Step
 
 /// The top, if it is of one station.
 fn single_on(stack: &Stack) -> Option<RangedGroup>
-    ensures some { IfSome result (λ top. (slice_get stack.now 0 ≡ Some top) × (count_of top ≡ 1)) }
+    ensures some { IfSome result (λ top. (slice_get stack.now 0 ≡ Some top) × (stations_of top ≡ 1)) }
     ensures none { IfNone result (stack.now ≡ from_open (map a_group stack.now)) }
     ensures leaves { IfNone result (leaves_in (map a_group stack.now) ≡ []) }
 {

@@ -36,14 +36,14 @@ pub struct Leaves {
 }
 
 impl Model for Leaves {
-    ghost use Rattle.std.specs.Prelude.{List, ◌≤◌, length, vec_capacity};
+    ghost use Rattle.std.specs.Prelude.{◌≡◌, List, ◌≤◌, length, vec_capacity};
     ghost use Rattle.dc_station_rules.specs.Epochs.{Leaf as leaf_record};
 
     ghost Value = { List leaf_record };
 
     ghost view = { λ l. l.items.items };
 
-    ghost invariant = { λ l. (256 ≤ vec_capacity l.items) × (length l.items.items ≤ 256) };
+    ghost invariant = { λ l. (vec_capacity l.items ≡ 256) × (length l.items.items ≤ 256) };
 }
 
 impl Leaves {
@@ -82,6 +82,6 @@ impl Leaves {
         requires { length self.old < 256 }
         ensures { self.new ≡ self.old ++ leaf ∷ [] }
     {
-        let _ = self.items.push(leaf);
+        self.items.push_reserved(leaf);
     }
 }

@@ -3,7 +3,7 @@
 ghost use Rattle.std.specs.Prelude.{◌≡◌, ◌+◌, ◌^◌, ◌<◌, ◌≤◌, [], ◌∷◌, IfOk, drop, slice_get};
 ghost use Rattle.dc_spec.specs.Groups.{uneven_limb};
 ghost use Rattle.dc_station_rules.specs.Epochs.{Ranged, is_called, leaf_of, mean_of};
-ghost use Rattle.dc_average.specs.Stacks.{IsStack, count_of, counts_in};
+ghost use Rattle.dc_average.specs.Stacks.{IsStack, stations_of, stations_in};
 
 use crate::leaf::Leaf;
 use dc_field::{Group, NoMemory};
@@ -31,7 +31,7 @@ impl Model for RangedGroup {
 impl RangedGroup {
     /// The greatest number that sends again in the word for this group.
     pub(crate) fn mean(&self) -> u128
-        requires { 1 ≤ count_of self.now }
+        requires { 1 ≤ stations_of self.now }
         ensures mean { result ≡ mean_of self.now.group }
         ensures below { result < 256 ^ 15 }
     {
@@ -40,7 +40,7 @@ impl RangedGroup {
 
     /// Whether a station with this number sends again in the word for this group.
     pub(crate) fn calls(&self, number: u128) -> bool
-        requires { 1 ≤ count_of self.now }
+        requires { 1 ≤ stations_of self.now }
         ensures { result ≡ is_called number (Some self.now) }
     {
         self.low <= number && number <= self.high && number <= self.mean()
@@ -49,7 +49,7 @@ impl RangedGroup {
     /// The leaf of a group whose values are all equal.
     #[tactic(auto, unfolding(dc_spec::specs::Groups::equal_value))]
     pub(crate) fn leaf(&self) -> Leaf
-        requires some { 1 ≤ count_of self.now }
+        requires some { 1 ≤ stations_of self.now }
         requires even { uneven_limb self.now.group ≡ None }
         ensures { result ≡ leaf_of self.now.group self.now.low self.now.high }
     {
@@ -69,7 +69,7 @@ pub(crate) struct Stack {
 }
 
 impl Model for Stack {
-    ghost use Rattle.std.specs.Prelude.{List, ◌≤◌, reverse, vec_capacity};
+    ghost use Rattle.std.specs.Prelude.{◌≡◌, List, reverse, vec_capacity};
     ghost use Rattle.dc_station_rules.specs.Epochs.{Ranged};
     ghost use Rattle.dc_average.specs.Stacks.{IsStack};
 
@@ -77,7 +77,7 @@ impl Model for Stack {
 
     ghost view = { λ s. reverse s.items.items };
 
-    ghost invariant = { λ s. (256 ≤ vec_capacity s.items) × IsStack (reverse s.items.items) };
+    ghost invariant = { λ s. (vec_capacity s.items ≡ 256) × IsStack (reverse s.items.items) };
 }
 
 impl Stack {
@@ -106,11 +106,11 @@ impl Stack {
 
     /// Puts a group on top. Takes no memory.
     pub(crate) fn push(&mut self, item: RangedGroup)
-        requires some { 1 ≤ count_of item }
-        requires room { count_of item + counts_in self.old ≤ 256 }
+        requires some { 1 ≤ stations_of item }
+        requires room { stations_of item + stations_in self.old ≤ 256 }
         ensures { self.new ≡ item ∷ self.old }
     {
-        let _ = self.items.push(item);
+        self.items.push_reserved(item);
     }
 
     /// Takes the top off.

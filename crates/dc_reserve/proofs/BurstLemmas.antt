@@ -16,8 +16,8 @@ use Rattle.dc_reserve.specs.declared.judge.BurstStep.{BurstStep}
 use Rattle.dc_reserve.specs.declared.judge.BurstStep.TheVariants.{Goes, Message, Void}
 use Rattle.dc_reserve.specs.declared.judge.Phase.{Phase}
 use Rattle.dc_reserve.specs.declared.judge.Phase.TheVariants.{First, Later, Whole, Broken}
-use Rattle.dc_reserve.specs.Phases.{IsGoing, Fits, told_fault, first_length_fault, own_fault, stray_byte, Leads, phase_after}
-use Rattle.dc_reserve.specs.StandsFor.{State, Keeps, StandsFor, Tells}
+use Rattle.dc_reserve.specs.Phases.{IsGoing, FitsPhase, burst_fault_of, first_length_fault, own_fault, stray_byte, Leads, burst_phase_after}
+use Rattle.dc_reserve.specs.StandsFor.{State, IsKeptOf, StandsFor, StepShows}
 use Rattle.dc_reserve.proofs.StepLemmas.{After, after_word, message_fits}
 
 -- nothing in front of an empty list
@@ -103,7 +103,7 @@ fault_of_later words word left i size count =
     rw (padding, here, before, count, one_less (word_count word) left) (or_apart _ (limb_fault word) None _)
 
 -- the first check that the next word breaks
-fault_of_next : (phase : Phase) (bytes : List ℕ) (words : List (List ℕ)) (word : List ℕ) → Keeps phase bytes words goes_on → fault_at (with_word words word) (length words) ≡ next_fault phase bytes word
+fault_of_next : (phase : Phase) (bytes : List ℕ) (words : List (List ℕ)) (word : List ℕ) → IsKeptOf phase bytes words goes_on → fault_at (with_word words word) (length words) ≡ next_fault phase bytes word
 fault_of_next First bytes words word keeps = rw (keeps.0, keeps.1) (fault_of_first word)
 fault_of_next (Later left) bytes words word keeps =
     let size : length words ≡ suc (length words - 1) = omega (arith, keeps.0) in
@@ -128,15 +128,15 @@ last_count words word =
     rw place (ap word_count (last-with_word words word))
 
 -- the bytes of all words
-bytes_so_far : (phase : Phase) (bytes : List ℕ) (words : List (List ℕ)) → Keeps phase bytes words goes_on → bytes ≡ carried words
+bytes_so_far : (phase : Phase) (bytes : List ℕ) (words : List (List ℕ)) → IsKeptOf phase bytes words goes_on → bytes ≡ carried words
 bytes_so_far First bytes words keeps = rw (keeps.0, keeps.1) refl
 bytes_so_far (Later left) bytes words keeps = keeps.2
 bytes_so_far (Whole size) bytes words keeps = absurd keeps
 bytes_so_far Broken bytes words keeps = absurd keeps
 
 -- what one more word does: what is kept after it goes with all words, and the step tells what they are
-pub one_more : (phase : Phase) (bytes : List ℕ) (words : List (List ℕ)) (word : List ℕ) (step : BurstStep) (new : List ℕ) → IsGoing phase → Fits phase bytes → Keeps phase bytes words goes_on → burst_of words ≡ goes_on → Leads phase bytes word step new
-    → Keeps (phase_after step word) new (with_word words word) (burst_of (with_word words word)) × Tells step (burst_of (with_word words word))
+pub one_more : (phase : Phase) (bytes : List ℕ) (words : List (List ℕ)) (word : List ℕ) (step : BurstStep) (new : List ℕ) → IsGoing phase → FitsPhase phase bytes → IsKeptOf phase bytes words goes_on → burst_of words ≡ goes_on → Leads phase bytes word step new
+    → IsKeptOf (burst_phase_after step word) new (with_word words word) (burst_of (with_word words word)) × StepShows step (burst_of (with_word words word))
 one_more phase bytes words word Goes new going fits keeps e leads =
     let fault : fault_at (with_word words word) (length words) ≡ None = fault_of_next phase bytes words word keeps ∙ (rw leads.0 (not_one (word_count word) leads.1)) in
     let is : burst_of (with_word words word) ≡ goes_on = clean-goes (with_word words word) (clean_all words word e fault) (λ one. leads.1 (sym (last_count words word) ∙ one)) in
@@ -160,12 +160,12 @@ one_more phase bytes words word (Message size) new going fits keeps e leads =
     let long : length (carried_message (with_word words word)) ≡ size = rw message (omega (arith, length-take size (drop 2 new), length-drop 2 new)) in
     (rw is (message, long), (carried_message (with_word words word), (is, long)))
 one_more phase bytes words word (Void why) new going fits keeps e leads =
-    let fault : fault_at (with_word words word) (length words) ≡ Some (told_fault why) = fault_of_next phase bytes words word keeps ∙ leads in
-    let is : burst_of (with_word words word) ≡ void_burst (told_fault why) = broken-burst words word (told_fault why) (clean_before words word e) fault in
+    let fault : fault_at (with_word words word) (length words) ≡ Some (burst_fault_of why) = fault_of_next phase bytes words word keeps ∙ leads in
+    let is : burst_of (with_word words word) ≡ void_burst (burst_fault_of why) = broken-burst words word (burst_fault_of why) (clean_before words word e) fault in
     (rw is tt, is)
 
 -- where further words are due, the words so far go on
-going_on : (phase : Phase) (bytes : List ℕ) (words : List (List ℕ)) (burst : Burst) → IsGoing phase → Keeps phase bytes words burst → burst ≡ goes_on
+going_on : (phase : Phase) (bytes : List ℕ) (words : List (List ℕ)) (burst : Burst) → IsGoing phase → IsKeptOf phase bytes words burst → burst ≡ goes_on
 going_on First bytes words goes_on going keeps = refl
 going_on First bytes words (gave message) going keeps = absurd keeps
 going_on First bytes words (void_burst fault) going keeps = absurd keeps
@@ -176,8 +176,8 @@ going_on (Whole size) bytes words burst going keeps = absurd going
 going_on Broken bytes words burst going keeps = absurd going
 
 -- the same from what the object stands for
-pub step_after : (state : State) (words : List (List ℕ)) (word : List ℕ) (step : BurstStep) (new : List ℕ) → IsGoing state.phase → Fits state.phase state.bytes → Leads state.phase state.bytes word step new → StandsFor state words
-    → Keeps (phase_after step word) new (with_word words word) (burst_of (with_word words word)) × Tells step (burst_of (with_word words word))
+pub step_after : (state : State) (words : List (List ℕ)) (word : List ℕ) (step : BurstStep) (new : List ℕ) → IsGoing state.phase → FitsPhase state.phase state.bytes → Leads state.phase state.bytes word step new → StandsFor state words
+    → IsKeptOf (burst_phase_after step word) new (with_word words word) (burst_of (with_word words word)) × StepShows step (burst_of (with_word words word))
 step_after state words word step new going fits leads stands =
     let e : burst_of words ≡ goes_on = going_on state.phase state.bytes words (burst_of words) going stands.kept in
-    one_more state.phase state.bytes words word step new going fits (subst (λ (b : Burst). Keeps state.phase state.bytes words b) e stands.kept) e leads
+    one_more state.phase state.bytes words word step new going fits (subst (λ (b : Burst). IsKeptOf state.phase state.bytes words b) e stands.kept) e leads

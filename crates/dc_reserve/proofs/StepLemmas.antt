@@ -13,7 +13,7 @@ use Rattle.dc_reserve.specs.declared.judge.BurstStep.{BurstStep}
 use Rattle.dc_reserve.specs.declared.judge.BurstStep.TheVariants.{Goes, Message, Void}
 use Rattle.dc_reserve.specs.declared.judge.Phase.{Phase}
 use Rattle.dc_reserve.specs.declared.judge.Phase.TheVariants.{First, Later, Whole, Broken}
-use Rattle.dc_reserve.specs.Phases.{IsGoing, Fits, count_allowed, first_length_fault, own_fault, Leads, phase_after, MayFollow}
+use Rattle.dc_reserve.specs.Phases.{IsGoing, FitsPhase, count_allowed, first_length_fault, own_fault, Leads, burst_phase_after, MayFollow}
 
 -- a word that breaks no check by itself
 pub own_none : (phase : Phase) (word : List ℕ) → own_fault phase word ≡ None → (count_allowed phase (word_count word) ≡ true) × (limb_fault word ≡ None) × (first_length_fault phase word ≡ None)
@@ -56,7 +56,7 @@ after_first word e =
     let size : length (word_limbs word) ≡ 15 = length-fifteen _ in
     record { some = some; most = most; long = omega (arith, size); due = omega (arith, size, needs); few = omega (arith, needs) }
 
-after_later : (left : ℕ) (bytes word : List ℕ) → Fits (Later left) bytes → own_fault (Later left) word ≡ None → After word (bytes ++ word_limbs word)
+after_later : (left : ℕ) (bytes word : List ℕ) → FitsPhase (Later left) bytes → own_fault (Later left) word ≡ None → After word (bytes ++ word_limbs word)
 after_later left bytes word fits e =
     let facts = own_none (Later left) word e in
     let count : word_count word ≡ left = eqb-true _ _ facts.0 in
@@ -70,14 +70,14 @@ after_later left bytes word fits e =
     record { some = omega arith; most = omega arith; long = omega arith; due = omega arith; few = omega arith }
 
 -- the bytes after a word that breaks no check by itself
-pub after_word : (phase : Phase) (bytes word : List ℕ) → IsGoing phase → Fits phase bytes → own_fault phase word ≡ None → After word (bytes ++ word_limbs word)
+pub after_word : (phase : Phase) (bytes word : List ℕ) → IsGoing phase → FitsPhase phase bytes → own_fault phase word ≡ None → After word (bytes ++ word_limbs word)
 after_word First bytes word going fits e = rw fits (after_first word e)
 after_word (Later left) bytes word going fits e = after_later left bytes word fits e
 after_word (Whole size) bytes word going fits e = absurd going
 after_word Broken bytes word going fits e = absurd going
 
 -- there is room for the bytes of a word
-pub room_for_word : (phase : Phase) (bytes : List ℕ) → IsGoing phase → Fits phase bytes → length bytes + 15 ≤ 3840
+pub room_for_word : (phase : Phase) (bytes : List ℕ) → IsGoing phase → FitsPhase phase bytes → length bytes + 15 ≤ 3840
 room_for_word First bytes going fits = rw fits (omega arith)
 room_for_word (Later left) bytes going fits = omega (arith, fits.0, fits.2, fits.3)
 room_for_word (Whole size) bytes going fits = absurd going
@@ -88,7 +88,7 @@ pub message_fits : (word bytes : List ℕ) → After word bytes → word_count w
 message_fits word bytes after one = let fits = (enough (short_at bytes 0)).0 in let due = after.due in omega arith
 
 -- the bytes go with the phase after a step
-pub fits_after : (phase : Phase) (bytes word : List ℕ) (step : BurstStep) (new : List ℕ) → IsGoing phase → Fits phase bytes → Leads phase bytes word step new → Fits (phase_after step word) new × MayFollow step word
+pub fits_after : (phase : Phase) (bytes word : List ℕ) (step : BurstStep) (new : List ℕ) → IsGoing phase → FitsPhase phase bytes → Leads phase bytes word step new → FitsPhase (burst_phase_after step word) new × MayFollow step word
 fits_after phase bytes word Goes new going fits leads =
     let after : After word new = rw leads.2 (after_word phase bytes word going fits leads.0) in
     let some : 1 ≤ word_count word = after.some in

@@ -13,11 +13,11 @@ use Rattle.dc_reserve.specs.declared.judge.Phase.{Phase}
 use Rattle.dc_reserve.specs.declared.judge.Phase.TheVariants.{First, Later, Whole, Broken}
 
 -- the check that a word broke, in the protocol's terms
-abbrev pub told_fault : BadBurst → BurstFault
-told_fault (Count seen) = burst_count seen
-told_fault (Limb l seen) = burst_limb l seen
-told_fault (Length told words) = burst_length told words
-told_fault (Padding at) = burst_padding at
+abbrev pub burst_fault_of : BadBurst → BurstFault
+burst_fault_of (Count seen) = burst_count seen
+burst_fault_of (Limb l seen) = burst_limb l seen
+burst_fault_of (Length told words) = burst_length told words
+burst_fault_of (Padding at) = burst_padding at
 
 -- further words are due
 abbrev pub IsGoing : Phase → Type 0
@@ -27,11 +27,11 @@ IsGoing (Whole size) = ⊥
 IsGoing Broken = ⊥
 
 -- the bytes so far go with the phase: with those of the words that are due they are as many as the told length needs
-abbrev pub Fits : Phase → List ℕ → Type 0
-Fits First bytes = bytes ≡ []
-Fits (Later left) bytes = (1 ≤ left) × (15 ≤ length bytes) × (length bytes + 15 * left ≡ 15 * fragment_count (short_at bytes 0)) × (fragment_count (short_at bytes 0) ≤ 256)
-Fits (Whole size) bytes = size + 2 ≤ length bytes
-Fits Broken bytes = Unit {0}
+abbrev pub FitsPhase : Phase → List ℕ → Type 0
+FitsPhase First bytes = bytes ≡ []
+FitsPhase (Later left) bytes = (1 ≤ left) × (15 ≤ length bytes) × (length bytes + 15 * left ≡ 15 * fragment_count (short_at bytes 0)) × (fragment_count (short_at bytes 0) ≤ 256)
+FitsPhase (Whole size) bytes = size + 2 ≤ length bytes
+FitsPhase Broken bytes = Unit {0}
 
 -- whether a count may come next
 abbrev pub count_allowed : Phase → ℕ → Bool
@@ -59,13 +59,13 @@ stray_byte bytes = find (λ at. not (slice_index bytes at == 0)) (range_with_len
 abbrev pub Leads : Phase → List ℕ → List ℕ → BurstStep → List ℕ → Type 0
 Leads phase bytes word Goes new = (own_fault phase word ≡ None) × (word_count word ≡ 1 → ⊥) × (new ≡ bytes ++ word_limbs word)
 Leads phase bytes word (Message size) new = (own_fault phase word ≡ None) × (word_count word ≡ 1) × (new ≡ bytes ++ word_limbs word) × (stray_byte new ≡ None) × (size ≡ short_at new 0)
-Leads phase bytes word (Void why) new = option_or (own_fault phase word) (if word_count word == 1 then option_map burst_padding (stray_byte (bytes ++ word_limbs word)) else None) ≡ Some (told_fault why)
+Leads phase bytes word (Void why) new = option_or (own_fault phase word) (if word_count word == 1 then option_map burst_padding (stray_byte (bytes ++ word_limbs word)) else None) ≡ Some (burst_fault_of why)
 
 -- where a burst stands after a step at a word
-abbrev pub phase_after : BurstStep → List ℕ → Phase
-phase_after Goes word = Later (word_count word - 1)
-phase_after (Message size) word = Whole size
-phase_after (Void why) word = Broken
+abbrev pub burst_phase_after : BurstStep → List ℕ → Phase
+burst_phase_after Goes word = Later (word_count word - 1)
+burst_phase_after (Message size) word = Whole size
+burst_phase_after (Void why) word = Broken
 
 -- a word after which a burst goes on has a count from 1 to 256
 abbrev pub MayFollow : BurstStep → List ℕ → Type 0

@@ -6,7 +6,7 @@ use Rattle.dc_reserve.specs.declared.judge.BurstStep.{BurstStep}
 use Rattle.dc_reserve.specs.declared.judge.BurstStep.TheVariants.{Goes, Message, Void}
 use Rattle.dc_reserve.specs.declared.judge.Phase.{Phase}
 use Rattle.dc_reserve.specs.declared.judge.Phase.TheVariants.{First, Later, Whole, Broken}
-use Rattle.dc_reserve.specs.Phases.{IsGoing, told_fault}
+use Rattle.dc_reserve.specs.Phases.{IsGoing, burst_fault_of}
 
 -- what is kept of a burst: where it stands, and the bytes of its words
 pub record State : Type 0 where
@@ -14,22 +14,22 @@ pub record State : Type 0 where
   pub bytes : List ℕ
 
 -- what is kept goes with what the words are as a burst
-abbrev pub Keeps : Phase → List ℕ → List (List ℕ) → Burst → Type 0
-Keeps First bytes words goes_on = (words ≡ []) × (bytes ≡ [])
-Keeps (Later left) bytes words goes_on = (1 ≤ length words) × (word_count (word_at words (length words - 1)) ≡ left + 1) × (bytes ≡ carried words)
-Keeps (Whole size) bytes words (gave message) = (message ≡ take size (drop 2 bytes)) × (length message ≡ size)
-Keeps Broken bytes words (void_burst fault) = Unit {0}
-Keeps phase bytes words burst = ⊥
+abbrev pub IsKeptOf : Phase → List ℕ → List (List ℕ) → Burst → Type 0
+IsKeptOf First bytes words goes_on = (words ≡ []) × (bytes ≡ [])
+IsKeptOf (Later left) bytes words goes_on = (1 ≤ length words) × (word_count (word_at words (length words - 1)) ≡ left + 1) × (bytes ≡ carried words)
+IsKeptOf (Whole size) bytes words (gave message) = (message ≡ take size (drop 2 bytes)) × (length message ≡ size)
+IsKeptOf Broken bytes words (void_burst fault) = Unit {0}
+IsKeptOf phase bytes words burst = ⊥
 
 -- this is what is kept of these words
 pub record StandsFor (state : State) (words : List (List ℕ)) : Type 0 where
-  pub kept : Keeps state.phase state.bytes words (burst_of words)
+  pub kept : IsKeptOf state.phase state.bytes words (burst_of words)
 
 -- a step tells what words are as a burst
-abbrev pub Tells : BurstStep → Burst → Type 0
-Tells Goes burst = burst ≡ goes_on
-Tells (Message size) burst = (message : List ℕ) × ((burst ≡ gave message) × (length message ≡ size))
-Tells (Void why) burst = burst ≡ void_burst (told_fault why)
+abbrev pub StepShows : BurstStep → Burst → Type 0
+StepShows Goes burst = burst ≡ goes_on
+StepShows (Message size) burst = (message : List ℕ) × ((burst ≡ gave message) × (length message ≡ size))
+StepShows (Void why) burst = burst ≡ void_burst (burst_fault_of why)
 
 -- the last step gave a message
 abbrev pub IsWhole : Phase → Type 0

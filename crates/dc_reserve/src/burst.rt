@@ -2,8 +2,8 @@
 
 ghost use Rattle.std.specs.Prelude.{◌≡◌, ℕ, ◌+◌, ◌*◌, ◌≤◌, List, [], ◌∷◌, ◌++◌, IfOk, length};
 ghost use Rattle.dc_station_rules.specs.Bursts.{burst_of, gave};
-ghost use Rattle.dc_reserve.specs.Phases.{IsGoing, MayFollow, phase_after};
-ghost use Rattle.dc_reserve.specs.StandsFor.{IsAfter, IsWhole, StandsFor, Tells};
+ghost use Rattle.dc_reserve.specs.Phases.{IsGoing, MayFollow, burst_phase_after};
+ghost use Rattle.dc_reserve.specs.StandsFor.{IsAfter, IsWhole, StandsFor, StepShows};
 
 use crate::judge::{BurstStep, Phase, judge};
 use dc_field::{NoMemory, Word};
@@ -18,15 +18,15 @@ pub struct Burst {
 }
 
 impl Model for Burst {
-    ghost use Rattle.std.specs.Prelude.{◌≤◌, vec_capacity};
-    ghost use Rattle.dc_reserve.specs.Phases.{Fits};
+    ghost use Rattle.std.specs.Prelude.{◌≡◌, vec_capacity};
+    ghost use Rattle.dc_reserve.specs.Phases.{FitsPhase};
     ghost use Rattle.dc_reserve.specs.StandsFor.{State};
 
     ghost Value = { State };
 
     ghost view = { λ b. record { phase = b.phase; bytes = b.bytes.items } };
 
-    ghost invariant = { λ b. Fits b.phase b.bytes.items × (3840 ≤ vec_capacity b.bytes) };
+    ghost invariant = { λ b. FitsPhase b.phase b.bytes.items × (vec_capacity b.bytes ≡ 3840) };
 }
 
 impl Burst {
@@ -57,11 +57,11 @@ impl Burst {
         ensures stands { (words : List (List ℕ)) → StandsFor self.old words →
             StandsFor self.new (words ++ w.now ∷ []) }
         ensures step { (words : List (List ℕ)) → StandsFor self.old words →
-            Tells result (burst_of (words ++ w.now ∷ [])) }
+            StepShows result (burst_of (words ++ w.now ∷ [])) }
         ensures phase { IsAfter result self.new.phase }
     {
         let step = judge(self.phase, &mut self.bytes, w);
-        self.phase = phase_after(step, w);
+        self.phase = burst_phase_after(step, w);
         step
     }
 
@@ -79,9 +79,9 @@ impl Burst {
 }
 
 /// Where a burst stands after a step at this word.
-fn phase_after(step: BurstStep, w: &Word) -> Phase
+fn burst_phase_after(step: BurstStep, w: &Word) -> Phase
     requires { MayFollow step w.now }
-    ensures { result ≡ phase_after step w.now }
+    ensures { result ≡ burst_phase_after step w.now }
 {
     match step {
         BurstStep::Goes => Phase::Later {

@@ -4,7 +4,7 @@ ghost use Rattle.std.specs.Prelude.{◌≡◌, ℕ, true, ◌+◌, ◌-◌, ◌*
 ghost use Rattle.std.specs.List.{find, range_with_len};
 ghost use Rattle.dc_spec.specs.Bytes.{short_at};
 ghost use Rattle.dc_spec.specs.Values.{word_count, word_limbs};
-ghost use Rattle.dc_reserve.specs.Phases.{Fits, IsGoing, Leads, count_allowed, own_fault, told_fault, first_length_fault};
+ghost use Rattle.dc_reserve.specs.Phases.{FitsPhase, IsGoing, Leads, count_allowed, own_fault, burst_fault_of, first_length_fault};
 
 use crate::fragments::fragment_count;
 use dc_field::Word;
@@ -49,10 +49,10 @@ pub(crate) enum Phase {
 /// Judges a word and puts its fifteen bytes after those before. Takes no memory.
 pub(crate) fn judge(phase: Phase, bytes: &mut Vec<u8>, w: &Word) -> BurstStep
     requires going { IsGoing phase }
-    requires fits { Fits phase bytes.old.items }
-    requires room { 3840 ≤ vec_capacity bytes.old }
+    requires fits { FitsPhase phase bytes.old.items }
+    requires room { vec_capacity bytes.old ≡ 3840 }
     ensures step { Leads phase bytes.old.items w.now result bytes.new.items }
-    ensures room { 3840 ≤ vec_capacity bytes.new }
+    ensures room { vec_capacity bytes.new ≡ 3840 }
 {
     if let Some(why) = fault(phase, w) {
         return BurstStep::Void { why };
@@ -61,7 +61,7 @@ pub(crate) fn judge(phase: Phase, bytes: &mut Vec<u8>, w: &Word) -> BurstStep
     if w.numbers()[0] != 1 {
         return BurstStep::Goes;
     }
-    let length = told_length(bytes);
+    let length = announced_length(bytes);
     match first_stray(bytes, usize::from(length) + 2) {
         Some(at) => BurstStep::Void {
             why: BadBurst::Padding { at: at as u16 },
@@ -72,7 +72,7 @@ pub(crate) fn judge(phase: Phase, bytes: &mut Vec<u8>, w: &Word) -> BurstStep
 
 /// The first check that a word breaks by itself.
 fn fault(phase: Phase, w: &Word) -> Option<BadBurst>
-    ensures { option_map told_fault result ≡ own_fault phase w.now }
+    ensures { option_map burst_fault_of result ≡ own_fault phase w.now }
 {
     let count = w.numbers()[0];
     if !is_allowed(phase, count) {
@@ -111,7 +111,7 @@ fn length_fault(phase: Phase, numbers: &[u32; 16]) -> Option<BadBurst>
     requires count { count_allowed phase (slice_index numbers.now 0) ≡ true }
     requires high { slice_index numbers.now 1 ≤ 255 }
     requires low { slice_index numbers.now 2 ≤ 255 }
-    ensures { option_map told_fault result ≡ first_length_fault phase numbers.now }
+    ensures { option_map burst_fault_of result ≡ first_length_fault phase numbers.now }
 {
     match phase {
         Phase::First => {
@@ -131,9 +131,9 @@ fn length_fault(phase: Phase, numbers: &[u32; 16]) -> Option<BadBurst>
 fn push_limbs(bytes: &mut Vec<u8>, w: &Word)
     requires limbs { (l : ℕ) → l < 15 → slice_index w.now (l + 1) ≤ 255 }
     requires fits { length bytes.old.items + 15 ≤ 3840 }
-    requires room { 3840 ≤ vec_capacity bytes.old }
+    requires room { vec_capacity bytes.old ≡ 3840 }
     ensures bytes { bytes.new.items ≡ bytes.old.items ++ word_limbs w.now }
-    ensures room { 3840 ≤ vec_capacity bytes.new }
+    ensures room { vec_capacity bytes.new ≡ 3840 }
 {
     for l in 0..15 {
         push_byte(bytes, w.numbers()[l + 1] as u8);
@@ -143,15 +143,15 @@ fn push_limbs(bytes: &mut Vec<u8>, w: &Word)
 /// Puts a byte after the others, in room that is there.
 fn push_byte(bytes: &mut Vec<u8>, byte: u8)
     requires fits { length bytes.old.items < 3840 }
-    requires room { 3840 ≤ vec_capacity bytes.old }
+    requires room { vec_capacity bytes.old ≡ 3840 }
     ensures bytes { bytes.new.items ≡ bytes.old.items ++ byte ∷ [] }
-    ensures room { 3840 ≤ vec_capacity bytes.new }
+    ensures room { vec_capacity bytes.new ≡ 3840 }
 {
-    let _ = bytes.push(byte);
+    bytes.push_reserved(byte);
 }
 
 /// The length that the first two bytes tell.
-fn told_length(bytes: &[u8]) -> u16
+fn announced_length(bytes: &[u8]) -> u16
     requires { 2 ≤ length bytes.now }
     ensures { result ≡ short_at bytes.now 0 }
 {

@@ -7,10 +7,10 @@ use Rattle.dc_spec.specs.Entries.{Entry}
 use Rattle.dc_station_rules.specs.Epochs.{Leaf}
 use Rattle.dc_station_rules.specs.Stations.{leaf_entry}
 use Rattle.dc_station_rules.proofs.FewEntries.{bytes_in-append}
-use Rattle.dc_station.specs.Logs.{Fits}
+use Rattle.dc_station.specs.Logs.{FitsRoom}
 
 -- entries fit where they fit with more at their end
-pub fits_front : (xs ys : List Entry) (room : ℕ) → Fits (xs ++ ys) room → Fits xs room
+pub fits_front : (xs ys : List Entry) (room : ℕ) → FitsRoom (xs ++ ys) room → FitsRoom xs room
 fits_front xs ys room fits =
     let few = fits.few in
     let short = fits.short in
@@ -27,7 +27,7 @@ entries_more entries leaves i leaf is =
     ap (λ xs. entries ++ map leaf_entry xs) (leaf_more leaves i leaf is) ∙ (ap (λ es. entries ++ es) (map-append leaf_entry (take i leaves) (leaf ∷ [])) ∙ sym (append_assoc entries (map leaf_entry (take i leaves)) (leaf_entry leaf ∷ [])))
 
 -- where the entries of all leaves fit, those of the first ones do
-pub fits_some : (entries : List Entry) (leaves : List Leaf) (i : ℕ) (room : ℕ) → Fits (entries ++ map leaf_entry leaves) room → Fits (entries ++ map leaf_entry (take i leaves)) room
+pub fits_some : (entries : List Entry) (leaves : List Leaf) (i : ℕ) (room : ℕ) → FitsRoom (entries ++ map leaf_entry leaves) room → FitsRoom (entries ++ map leaf_entry (take i leaves)) room
 fits_some entries leaves i room fits =
     let all : entries ++ map leaf_entry leaves ≡ (entries ++ map leaf_entry (take i leaves)) ++ map leaf_entry (drop i leaves) = ap (λ xs. entries ++ map leaf_entry xs) (sym (take-append-drop i leaves)) ∙ (ap (λ es. entries ++ es) (map-append leaf_entry (take i leaves) (drop i leaves)) ∙ sym (append_assoc entries (map leaf_entry (take i leaves)) (map leaf_entry (drop i leaves)))) in
-    fits_front (entries ++ map leaf_entry (take i leaves)) (map leaf_entry (drop i leaves)) room (subst (λ es. Fits es room) all fits)
+    fits_front (entries ++ map leaf_entry (take i leaves)) (map leaf_entry (drop i leaves)) room (subst (λ es. FitsRoom es room) all fits)

@@ -8,7 +8,7 @@ use Rattle.dc_station_rules.proofs.FewEntries.{bytes_in-append}
 use Rattle.dc_station.specs.declared.log.Kind.{Kind}
 use Rattle.dc_station.specs.declared.log.Kind.TheVariants.{Short, Long}
 use Rattle.dc_station.specs.declared.log.Row.{Row}
-use Rattle.dc_station.specs.Logs.{Fits, entry_as, IsSized, entry_at, entries_of, LiesIn, AreLaid}
+use Rattle.dc_station.specs.Logs.{FitsRoom, entry_as, IsSized, entry_at, entries_of, LiesIn, AreLaid}
 
 -- the bytes of an entry
 bytes-as : (kind : Kind) (bytes : List ℕ) → entry_bytes (entry_as kind bytes) ≡ bytes
@@ -16,7 +16,7 @@ bytes-as (Short times) bytes = refl
 bytes-as Long bytes = refl
 
 -- one more entry fits where there is room for it
-pub fits-push : (entries : List Entry) (kind : Kind) (bytes : List ℕ) (room : ℕ) → Fits (entries ++ entry_as kind bytes ∷ []) room ↔ ((length entries < room) × (bytes_in entries + length bytes ≤ 15 * room))
+pub fits-push : (entries : List Entry) (kind : Kind) (bytes : List ℕ) (room : ℕ) → FitsRoom (entries ++ entry_as kind bytes ∷ []) room ↔ ((length entries < room) × (bytes_in entries + length bytes ≤ 15 * room))
 fits-push entries kind bytes room =
     let count : length (entries ++ entry_as kind bytes ∷ []) ≡ length entries + 1 = length-append entries (entry_as kind bytes ∷ []) in
     let size : bytes_in (entries ++ entry_as kind bytes ∷ []) ≡ bytes_in entries + (length bytes + 0) = bytes_in-append entries (entry_as kind bytes ∷ []) ∙ ap (λ b. bytes_in entries + (length b + 0)) (bytes-as kind bytes) in (
@@ -58,7 +58,7 @@ entries-push bytes more rows row room laid is =
     map-append (entry_at (bytes ++ more)) rows (row ∷ []) ∙ ap₂ (λ es e. es ++ e ∷ []) (all-stay bytes more rows laid.lie) (last-entry bytes more row is)
 
 -- and the rows are laid, where there is room for it
-pub laid-push : (bytes more : List ℕ) (rows : List Row) (row : Row) (room : ℕ) → AreLaid bytes rows room → Behind bytes more row → Fits (entries_of bytes rows ++ entry_as row.kind more ∷ []) room → AreLaid (bytes ++ more) (rows ++ row ∷ []) room
+pub laid-push : (bytes more : List ℕ) (rows : List Row) (row : Row) (room : ℕ) → AreLaid bytes rows room → Behind bytes more row → FitsRoom (entries_of bytes rows ++ entry_as row.kind more ∷ []) room → AreLaid (bytes ++ more) (rows ++ row ∷ []) room
 laid-push bytes more rows row room laid is fits =
     let same = entries-push bytes more rows row room laid is in
     let counted = laid.counted in
@@ -67,5 +67,5 @@ laid-push bytes more rows row room laid is fits =
     record {
       lie = lie-more bytes more rows row laid.lie (record { within = omega (arith, length-append bytes more); sized = subst (IsSized row.kind) (sym is.size) is.sized });
       counted = ap bytes_in same ∙ bytes_in-append (entries_of bytes rows) (entry_as row.kind more ∷ []) ∙ ap (λ b. bytes_in (entries_of bytes rows) + (length b + 0)) (bytes-as row.kind more) ∙ omega (arith, length-append bytes more);
-      fit = subst (λ es. Fits es room) (sym same) fits;
+      fit = subst (λ es. FitsRoom es room) (sym same) fits;
     }

@@ -12,8 +12,8 @@ use Rattle.dc_spec.proofs.WordLemmas.{length-word_of, symbol-word_of, word_from_
 use Rattle.dc_spec.specs.Entries.{Stream}
 use Rattle.dc_station_rules.specs.Epochs.{Leaf}
 use Rattle.dc_station_rules.specs.Stations.{next_mark, mark_word, is_leaf_of}
-use Rattle.dc_station.specs.declared.sender.Sender.{Sender}
-use Rattle.dc_station.specs.Sending.{if_any, shorts_of, IsUsable, SendsShort, SendsLong}
+use Rattle.dc_station.specs.declared.progress.Progress.{Progress}
+use Rattle.dc_station.specs.Sending.{if_any, shorts_of, IsWithin, SendsShort, SendsLong}
 
 -- a zero word in which one symbol is set to 1
 marked_symbol : (field k : ℕ) (b : Bool) → (k == field) ≡ b → field < 16 → k < 16 → get_or (slice_set zero_word field 1) k 0 ≡ (if b then 1 else 0)
@@ -64,8 +64,8 @@ pub no_value_first : (flag : Bool) (stream : Stream) (out : List Leaf) → flag 
 no_value_first flag stream out unsent none = rw (unsent, none) refl
 
 -- nothing is sent
-pub sends_no_short : (sender : Sender) → IsUsable sender → SendsShort sender [] sender
-sends_no_short sender usable = record { usable = usable; same = refl; longs = refl; shorts = sym (or-false sender.short_sent); room = refl; log = λ fits. sym (append-nil sender.log.entries) }
+pub sends_no_short : (stream : Stream) (progress : Progress) → IsWithin stream progress → SendsShort stream progress [] progress
+sends_no_short stream progress within = record { within = within; same = refl; longs = refl; shorts = sym (or-false progress.short_sent); room = refl; log = λ fits. sym (append-nil progress.log.entries) }
 
-pub sends_no_long : (sender : Sender) → IsUsable sender → SendsLong sender [] sender
-sends_no_long sender usable = record { usable = usable; same = refl; shorts = refl; longs = sym (or-false sender.long_sent); room = refl; log = λ fits. sym (append-nil sender.log.entries) }
+pub sends_no_long : (stream : Stream) (progress : Progress) → IsWithin stream progress → SendsLong stream progress [] progress
+sends_no_long stream progress within = record { within = within; same = refl; shorts = refl; longs = sym (or-false progress.long_sent); room = refl; log = λ fits. sym (append-nil progress.log.entries) }

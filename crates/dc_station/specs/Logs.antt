@@ -12,14 +12,14 @@ pub record Kept : Type 0 where
   pub room : ℕ
 
 -- entries fit in the room of so many words: one entry and fifteen bytes for each
-pub record Fits (entries : List Entry) (room : ℕ) : Type 0 where
+pub record FitsRoom (entries : List Entry) (room : ℕ) : Type 0 where
   pub few : length entries ≤ room
   pub short : bytes_in entries ≤ 15 * room
 
 -- how many stations sent an entry, where it is a value
-abbrev pub times_of : Entry → Option ℕ
-times_of (short value times) = Some times
-times_of (long message) = None
+abbrev pub entry_times : Entry → Option ℕ
+entry_times (short value times) = Some times
+entry_times (long message) = None
 
 -- the entry of this kind with these bytes
 abbrev pub entry_as : Kind → List ℕ → Entry
@@ -47,4 +47,4 @@ pub record LiesIn (bytes : List ℕ) (row : Row) : Type 0 where
 pub record AreLaid (bytes : List ℕ) (rows : List Row) (room : ℕ) : Type 0 where
   pub lie : AllByRecursion (LiesIn bytes) rows
   pub counted : bytes_in (entries_of bytes rows) ≡ length bytes
-  pub fit : Fits (entries_of bytes rows) room
+  pub fit : FitsRoom (entries_of bytes rows) room

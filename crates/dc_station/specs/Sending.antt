@@ -1,33 +1,31 @@
--- A sender as the code keeps it: how much of its stream was used up before the cycle began, and what the cycle sent.
+-- What a station keeps of its sending, beside its stream: how much of the stream was used up before the cycle began, and what the cycle sent.
 use Rattle.std.specs.Prelude.{◌≡◌, ℕ, ◌+◌, ◌≤◌, Bool, true, false, ◌||◌, ◌&&◌, ◌==◌, if◌then◌else◌, List, [], ◌∷◌, ◌++◌, length, map, drop, nat_lt, Option, Some, None}
 use Rattle.std.specs.Str.{bytes_eq}
 use Rattle.dc_spec.specs.Words.{zero_word}
-use Rattle.dc_formats.specs.StreamFile.{IsStream}
 use Rattle.dc_spec.specs.Entries.{short, long, Stream}
 use Rattle.dc_spec.specs.Values.{contended_word}
 use Rattle.dc_station_rules.specs.Bursts.{fragment, fragment_count}
 use Rattle.dc_station_rules.specs.Epochs.{Leaf, Epoch, calls}
 use Rattle.dc_station_rules.specs.Stations.{coins_used, first_short, marked}
-use Rattle.dc_station.specs.declared.sender.Sender.{Sender}
-use Rattle.dc_station.specs.Logs.{Fits}
+use Rattle.dc_station.specs.declared.progress.Progress.{Progress}
+use Rattle.dc_station.specs.Logs.{FitsRoom}
 
--- what of the stream was pending when the cycle began
-abbrev pub left : Sender → Stream
-left sender = record { shorts = drop sender.shorts_used sender.stream.shorts; longs = drop sender.longs_used sender.stream.longs; coins = drop sender.coins_used sender.stream.coins }
+-- what of a stream was pending when the cycle began
+abbrev pub left : Stream → Progress → Stream
+left stream progress = record { shorts = drop progress.shorts_used stream.shorts; longs = drop progress.longs_used stream.longs; coins = drop progress.coins_used stream.coins }
 
--- one where something is so
+-- one where a flag is set
 abbrev pub one_if : Bool → ℕ
 one_if true = 1
 one_if false = 0
 
--- the stream is within its limits, and no more is used up or sent than there is
-pub record IsUsable (sender : Sender) : Type 0 where
-  pub limits : IsStream sender.stream
-  pub shorts : sender.shorts_used + one_if sender.short_sent ≤ length sender.stream.shorts
-  pub longs : sender.longs_used + one_if sender.long_sent ≤ length sender.stream.longs
-  pub coins : sender.coins_used ≤ length sender.stream.coins
+-- no more of a stream is used up or sent than there is
+pub record IsWithin (stream : Stream) (progress : Progress) : Type 0 where
+  pub shorts : progress.shorts_used + one_if progress.short_sent ≤ length stream.shorts
+  pub longs : progress.longs_used + one_if progress.long_sent ≤ length stream.longs
+  pub coins : progress.coins_used ≤ length stream.coins
 
--- a payload where something is so
+-- a payload where a flag is set
 abbrev pub if_any : Bool → List ℕ → List (List ℕ)
 if_any so payload = if so then payload ∷ [] else []
 
@@ -47,39 +45,39 @@ is_first message (first ∷ longs) = bytes_eq message first
 
 -- the messages that a burst of this field sends by giving a message: one or none
 abbrev pub longs_of : Stream → ℕ → List ℕ → List (List ℕ)
-longs_of stream field message = if_any (is_mark field (marked stream) && is_first message stream.longs) message
+longs_of pending field message = if_any (is_mark field (marked pending) && is_first message pending.longs) message
 
 -- the values that leaves send, where the cycle sent one or not
 abbrev pub shorts_of : Bool → Stream → List Leaf → List (List ℕ)
-shorts_of true stream out = []
-shorts_of false stream out = first_short stream.shorts out
+shorts_of true pending out = []
+shorts_of false pending out = first_short pending.shorts out
 
 -- these messages, one or none, are sent
-pub record SendsLong (old : Sender) (sends : List (List ℕ)) (new : Sender) : Type 0 where
-  pub usable : IsUsable new
-  pub same : left new ≡ left old
+pub record SendsLong (stream : Stream) (old : Progress) (sends : List (List ℕ)) (new : Progress) : Type 0 where
+  pub within : IsWithin stream new
+  pub same : left stream new ≡ left stream old
   pub shorts : new.short_sent ≡ old.short_sent
   pub longs : new.long_sent ≡ (old.long_sent || is_any sends)
   pub room : new.log.room ≡ old.log.room
-  pub log : Fits (old.log.entries ++ map long sends) old.log.room → new.log.entries ≡ old.log.entries ++ map long sends
+  pub log : FitsRoom (old.log.entries ++ map long sends) old.log.room → new.log.entries ≡ old.log.entries ++ map long sends
 
 -- these values, one or none, are sent
-pub record SendsShort (old : Sender) (sends : List (List ℕ)) (new : Sender) : Type 0 where
-  pub usable : IsUsable new
-  pub same : left new ≡ left old
+pub record SendsShort (stream : Stream) (old : Progress) (sends : List (List ℕ)) (new : Progress) : Type 0 where
+  pub within : IsWithin stream new
+  pub same : left stream new ≡ left stream old
   pub longs : new.long_sent ≡ old.long_sent
   pub shorts : new.short_sent ≡ (old.short_sent || is_any sends)
   pub room : new.log.room ≡ old.log.room
-  pub log : Fits (old.log.entries ++ map (λ value. short value 1) sends) old.log.room → new.log.entries ≡ old.log.entries ++ map (λ value. short value 1) sends
+  pub log : FitsRoom (old.log.entries ++ map (λ value. short value 1) sends) old.log.room → new.log.entries ≡ old.log.entries ++ map (λ value. short value 1) sends
 
 -- a stream without its first value or message, where they were sent, and without the coin that it marks
 abbrev pub less : Bool → Bool → Stream → Stream
-less short_sent long_sent stream = record { shorts = drop (one_if short_sent) stream.shorts; longs = drop (one_if long_sent) stream.longs; coins = drop (coins_used (marked stream)) stream.coins }
+less short_sent long_sent pending = record { shorts = drop (one_if short_sent) pending.shorts; longs = drop (one_if long_sent) pending.longs; coins = drop (coins_used (marked pending)) pending.coins }
 
 -- a cycle is over
-pub record Ends (old : Sender) (new : Sender) : Type 0 where
-  pub usable : IsUsable new
-  pub remains : left new ≡ less old.short_sent old.long_sent (left old)
+pub record Ends (stream : Stream) (old : Progress) (new : Progress) : Type 0 where
+  pub within : IsWithin stream new
+  pub remains : left stream new ≡ less old.short_sent old.long_sent (left stream old)
   pub shorts : new.short_sent ≡ false
   pub longs : new.long_sent ≡ false
   pub log : new.log ≡ old.log

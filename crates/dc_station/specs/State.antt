@@ -1,23 +1,48 @@
--- What contracts see of a station.
+-- What contracts see of a receiver, a sender and a station.
 use Rattle.std.specs.Prelude.{◌≡◌, ℕ, ◌≤◌}
-use Rattle.dc_station.specs.declared.receiver.Receiver.{Receiver}
-use Rattle.dc_station.specs.declared.sender.Sender.{Sender}
-use Rattle.dc_station.specs.Receiving.{IsReady, index_of}
-use Rattle.dc_station.specs.Sending.{IsUsable}
+use Rattle.dc_spec.specs.Entries.{Stream}
+use Rattle.dc_station.specs.declared.reception.Reception.{Reception}
+use Rattle.dc_station.specs.declared.reception.Effect.{Effect}
+use Rattle.dc_station.specs.declared.progress.Progress.{Progress}
+use Rattle.dc_station.specs.Receiving.{HasMessage, IsReady, index_of}
+use Rattle.dc_station.specs.Sending.{IsWithin}
 
--- how many words were received, how many words the session has, what is kept of the received words, and what of the stream is pending and sent
+-- how many words were received, how many words the session has, what is kept of the words, and the result of the last one
+pub record ReceiverState : Type 0 where
+  pub taken : ℕ
+  pub total : ℕ
+  pub kept : Reception
+  pub effect : Effect
+
+-- one more word can always be taken, and the log has room for all words
+pub record IsReceiver (taken : ℕ) (total : ℕ) (kept : Reception) (effect : Effect) : Type 0 where
+  pub within : taken ≤ total
+  pub few : total ≤ 4096
+  pub ready : IsReady kept
+  pub index : index_of kept.phase ≤ taken
+  pub room : kept.log.room ≡ total
+  pub message : HasMessage effect kept.burst
+
+-- how many words were taken, how many words the session has, and what is pending and sent
+pub record SenderState : Type 0 where
+  pub taken : ℕ
+  pub total : ℕ
+  pub progress : Progress
+
+-- a sender's counts are within this stream
+abbrev pub IsSenderOf : SenderState → Stream → Type 0
+IsSenderOf sender stream = IsWithin stream sender.progress
+
+-- how many words were received, how many words the session has, the stream, and the two parts of the station
 pub record State : Type 0 where
   pub taken : ℕ
   pub total : ℕ
-  pub receiver : Receiver
-  pub sender : Sender
+  pub stream : Stream
+  pub receiver : ReceiverState
+  pub sender : SenderState
 
--- whatever words came, one more can be taken, and both logs have room for all words
-pub record IsKept (taken : ℕ) (total : ℕ) (receiver : Receiver) (sender : Sender) : Type 0 where
-  pub within : taken ≤ total
-  pub few : total ≤ 4096
-  pub ready : IsReady receiver
-  pub index : index_of receiver.phase ≤ taken
-  pub usable : IsUsable sender
-  pub received_room : receiver.log.room ≡ total
-  pub sent_room : sender.log.room ≡ total
+-- the sender took each word of the receiver
+pub record IsStation (stream : Stream) (receiver : ReceiverState) (sender : SenderState) : Type 0 where
+  pub level : sender.taken ≡ receiver.taken
+  pub session : sender.total ≡ receiver.total
+  pub own : IsSenderOf sender stream

@@ -2,7 +2,7 @@
 
 use dc_field::{Bytes, Value};
 
-/// What came out of a session: contracts compare it with an entry of the definitions.
+/// An entry of a log; contracts compare it with an entry of the definitions.
 #[derive(Debug, Drop)]
 pub enum Entry {
     /// A value, and how many stations sent it.

@@ -1,10 +1,12 @@
-//! The station core: what a station sends, what it knows to be sent, and the log that it keeps, word by word.
+//! The station core: what a station sends, what it counts as sent, and the log that it keeps, word by word.
 #![tactic(auto)]
 
 mod entry;
 mod log;
 mod phase;
+mod progress;
 mod receiver;
+mod reception;
 mod sender;
 mod station;
 mod words;
@@ -12,11 +14,6 @@ mod words;
 pub use entry::Entry;
 pub use log::Log;
 pub use phase::{Pending, Phase};
+pub use receiver::Receiver;
+pub use sender::Sender;
 pub use station::Station;
-
-#[cfg(test)]
-mod log_tests;
-#[cfg(test)]
-mod session_tests;
-#[cfg(test)]
-mod sessions;

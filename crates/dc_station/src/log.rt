@@ -1,9 +1,9 @@
-//! Logs: entries one after the other, in room that was taken at the start.
+//! Logs: entries one after the other, in room that is allocated at the start.
 
 ghost use Rattle.std.specs.Prelude.{◌≡◌, ◌+◌, ◌*◌, ◌^◌, ◌<◌, ◌≤◌, ◌↔◌, IsTrue, [], ◌∷◌, ◌++◌, IfOk, length, option_map, slice_get, vec_len, vec_capacity};
 ghost use Rattle.dc_spec.specs.Entries.{short, long, bytes_in, entry_bytes};
 ghost use Rattle.dc_station.specs.Entries.{entry_of};
-ghost use Rattle.dc_station.specs.Logs.{Fits, IsSized, entry_as, times_of};
+ghost use Rattle.dc_station.specs.Logs.{FitsRoom, IsSized, entry_as, entry_times};
 
 use crate::entry::Entry;
 use dc_field::{NoMemory, Value};
@@ -17,7 +17,7 @@ enum Kind {
     Long,
 }
 
-/// Where the bytes of an entry lie among those of all.
+/// Where the bytes of an entry are among those of all.
 #[derive(Clone, Copy, Debug)]
 struct Row {
     kind: Kind,
@@ -35,14 +35,15 @@ pub struct Log {
 }
 
 impl Model for Log {
-    ghost use Rattle.std.specs.Prelude.{◌*◌, ◌≤◌, vec_capacity};
+    ghost use Rattle.std.specs.Prelude.{◌≡◌, ◌*◌, vec_capacity};
     ghost use Rattle.dc_station.specs.Logs.{Kept, entries_of, AreLaid};
 
     ghost Value = { Kept };
 
     ghost view = { λ l. record { entries = entries_of l.bytes.items l.rows.items; room = l.room } };
 
-    ghost invariant = { λ l. AreLaid l.bytes.items l.rows.items l.room × (15 * l.room ≤ vec_capacity l.bytes) × (l.room ≤ vec_capacity l.rows) };
+    ghost invariant = { λ l. AreLaid l.bytes.items l.rows.items l.room
+        × (vec_capacity l.bytes ≡ 15 * l.room) × (vec_capacity l.rows ≡ l.room) };
 }
 
 impl Log {
@@ -69,7 +70,7 @@ impl Log {
     /// How many stations sent entry number `i`, from 0; none exactly where it is a message.
     pub fn times(&self, i: usize) -> Option<u16>
         requires { i < length self.now.entries }
-        ensures { option_map times_of (slice_get self.now.entries i) ≡ Some result }
+        ensures { option_map entry_times (slice_get self.now.entries i) ≡ Some result }
     {
         match self.rows[i].kind {
             Kind::Short { times } => Some(times),
@@ -100,23 +101,23 @@ impl Log {
         }
     }
 
-    /// Puts a value at the end, where there is room, and else nothing. Takes no memory.
+    /// Puts a value at the end, where there is room, and else nothing.
     pub(crate) fn put_short(&mut self, value: &Value, times: u16)
         ensures room { self.new.room ≡ self.old.room }
-        ensures entries { Fits (self.old.entries ++ short value.now times ∷ []) self.old.room →
+        ensures entries { FitsRoom (self.old.entries ++ short value.now times ∷ []) self.old.room →
             self.new.entries ≡ self.old.entries ++ short value.now times ∷ [] }
-        ensures full { ¬ Fits (self.old.entries ++ short value.now times ∷ []) self.old.room →
+        ensures full { ¬ FitsRoom (self.old.entries ++ short value.now times ∷ []) self.old.room →
             self.new ≡ self.old }
     {
         self.put(Kind::Short { times }, &value.bytes);
     }
 
-    /// Puts a message at the end, where there is room, and else nothing. Takes no memory.
+    /// Puts a message at the end, where there is room, and else nothing.
     pub(crate) fn put_long(&mut self, bytes: &[u8])
         ensures room { self.new.room ≡ self.old.room }
-        ensures entries { Fits (self.old.entries ++ long bytes.now ∷ []) self.old.room →
+        ensures entries { FitsRoom (self.old.entries ++ long bytes.now ∷ []) self.old.room →
             self.new.entries ≡ self.old.entries ++ long bytes.now ∷ [] }
-        ensures full { ¬ Fits (self.old.entries ++ long bytes.now ∷ []) self.old.room →
+        ensures full { ¬ FitsRoom (self.old.entries ++ long bytes.now ∷ []) self.old.room →
             self.new ≡ self.old }
     {
         self.put(Kind::Long, bytes);
@@ -126,9 +127,9 @@ impl Log {
     fn put(&mut self, kind: Kind, bytes: &[u8])
         requires { IsSized kind (length bytes.now) }
         ensures room { self.new.room ≡ self.old.room }
-        ensures entries { Fits (self.old.entries ++ entry_as kind bytes.now ∷ []) self.old.room →
+        ensures entries { FitsRoom (self.old.entries ++ entry_as kind bytes.now ∷ []) self.old.room →
             self.new.entries ≡ self.old.entries ++ entry_as kind bytes.now ∷ [] }
-        ensures full { ¬ Fits (self.old.entries ++ entry_as kind bytes.now ∷ []) self.old.room →
+        ensures full { ¬ FitsRoom (self.old.entries ++ entry_as kind bytes.now ∷ []) self.old.room →
             self.new ≡ self.old }
     {
         if self.has_room(bytes.len()) {
@@ -145,21 +146,33 @@ impl Log {
     }
 }
 
-/// Puts bytes behind others, and a row that tells where they lie, within the room that was taken.
+/// Puts bytes after others, and a row with their place, in the room that is reserved.
 fn put_row(bytes: &mut Vec<u8>, rows: &mut Vec<Row>, kind: Kind, more: &[u8])
     requires short { length bytes.old.items + length more.now < 2 ^ 32 }
     requires bytes { vec_len bytes.old + length more.now ≤ vec_capacity bytes.old }
     requires rows { vec_len rows.old < vec_capacity rows.old }
     ensures bytes { bytes.new.items ≡ bytes.old.items ++ more.now }
-    ensures rows { rows.new.items ≡ rows.old.items ++ record { kind = kind; begin = length bytes.old.items; size = length more.now } ∷ [] }
-    ensures bytes_room { vec_capacity bytes.old ≤ vec_capacity bytes.new }
-    ensures rows_room { vec_capacity rows.old ≤ vec_capacity rows.new }
+    ensures rows { rows.new.items ≡ rows.old.items
+        ++ record { kind = kind; begin = length bytes.old.items; size = length more.now } ∷ [] }
+    ensures bytes_room { vec_capacity bytes.new ≡ vec_capacity bytes.old }
+    ensures rows_room { vec_capacity rows.new ≡ vec_capacity rows.old }
 {
     let row = Row {
         kind,
         begin: bytes.len() as u32,
         size: more.len() as u32,
     };
-    let _ = bytes.extend_from_slice(more);
-    let _ = rows.push(row);
+    push_bytes(bytes, more);
+    rows.push_reserved(row);
+}
+
+/// Puts bytes after others, in the room that is reserved.
+fn push_bytes(bytes: &mut Vec<u8>, more: &[u8])
+    requires { vec_len bytes.old + length more.now ≤ vec_capacity bytes.old }
+    ensures bytes { bytes.new.items ≡ bytes.old.items ++ more.now }
+    ensures room { vec_capacity bytes.new ≡ vec_capacity bytes.old }
+{
+    for i in 0..more.len() {
+        bytes.push_reserved(more[i]);
+    }
 }

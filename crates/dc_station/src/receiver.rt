@@ -1,191 +1,111 @@
-//! What a station makes of the words that it receives.
+//! What a station of a session keeps of the words that it receives. It does not depend on a stream, so
+//! stations that receive the same words can share one receiver.
 
-ghost use Rattle.std.specs.Prelude.{◌≡◌, ℕ, ◌+◌, ◌<◌, ◌≤◌, [], ◌∷◌, ◌++◌, List, IfOk, length, map};
-ghost use Rattle.dc_station_rules.specs.Stations.{leaf_entry};
-ghost use Rattle.dc_reserve.specs.Phases.{IsGoing};
-ghost use Rattle.dc_reserve.specs.StandsFor.{StandsFor as BurstStandsFor};
-ghost use Rattle.dc_average.specs.StandsFor.{is_done};
-ghost use Rattle.dc_station.specs.Logs.{Fits};
-ghost use Rattle.dc_station.specs.Receiving.{IsAt, IsBegun, IsReady, Receives, Takes, TakesNext, fields_from, index_of, phase_after};
+ghost use Rattle.std.specs.Prelude.{◌≡◌, ℕ, ◌+◌, ◌<◌, ◌≤◌, List, [], ◌∷◌, ◌++◌, IfOk};
+ghost use Rattle.dc_station_rules.specs.Cycles.{place_of};
+ghost use Rattle.dc_station_rules.specs.Stations.{log_of};
+ghost use Rattle.dc_station.specs.Receiving.{HasMessage, IsReady, phase_at};
+ghost use Rattle.dc_station.specs.StandsFor.{ReceiverStandsFor};
 
 use crate::log::Log;
 use crate::phase::Phase;
-use dc_average::{Ask, Epoch, Leaves};
+use crate::reception::{Effect, Reception};
 use dc_field::{NoMemory, Word};
-use dc_reserve::{Burst, BurstStep, Fields, granted};
 use std::alloc::Global;
+use std::marker::Model;
 
-/// What a station keeps of the words that it received, whatever it has to say itself.
+/// The receiving part of a station, in a session of so many words. All its memory is allocated at the start.
 #[derive(Drop)]
-pub(crate) struct Receiver {
-    pub(crate) phase: Phase,
-    /// The fields of the cycle's reservation word.
-    pub(crate) granted: Fields,
-    pub(crate) burst: Burst,
-    pub(crate) epoch: Epoch,
-    /// The leaves of the last word of an epoch.
-    pub(crate) leaves: Leaves,
-    pub(crate) log: Log,
+pub struct Receiver {
+    taken: u16,
+    total: u16,
+    kept: Reception,
+    effect: Effect,
 }
 
-/// What came of a word.
-#[derive(Clone, Copy, Debug)]
-pub(crate) enum Came {
-    /// No message and no leaf.
-    Nothing,
-    /// The message of the burst of a field; the burst has it.
-    Message { field: u8 },
-    /// Leaves; whether the epoch, and the cycle with it, is over.
-    Leaves { over: bool },
+impl Model for Receiver {
+    ghost use Rattle.dc_station.specs.State.{ReceiverState, IsReceiver};
+
+    ghost Value = { ReceiverState };
+
+    ghost view = { λ r. record { taken = r.taken; total = r.total; kept = r.kept; effect = r.effect } };
+
+    ghost invariant = { λ r. IsReceiver r.taken r.total r.kept r.effect };
 }
 
 impl Receiver {
-    /// A receiver of no words.
-    pub(crate) fn start(alloc: Global, words: u16) -> Result<Receiver, NoMemory>
-        ensures ready { IfOk result IsReady }
-        ensures room { IfOk result (λ r. r.log.room ≡ words) }
-        ensures phase { IfOk result (λ r. index_of r.phase ≡ 0) }
-        ensures receives { IfOk result (λ r. Receives r []) }
+    /// A receiver that has received no words, in a session of 1 to 4096 words.
+    pub fn start(alloc: Global, words: u16) -> Result<Receiver, NoMemory>
+        requires some { 1 ≤ words }
+        requires most { words ≤ 4096 }
+        ensures { IfOk result (λ receiver. ReceiverStandsFor receiver words []) }
     {
-        let burst = Burst::start(alloc)?;
-        let epoch = Epoch::start(alloc)?;
-        let leaves = Leaves::start(alloc)?;
-        let log = Log::start(alloc, words)?;
+        let kept = Reception::start(alloc, words)?;
         Ok(Receiver {
-            phase: Phase::Reserve,
-            granted: granted(&Word::zero()),
-            burst,
-            epoch,
-            leaves,
-            log,
+            taken: 0,
+            total: words,
+            kept,
+            effect: Effect::Nothing,
         })
     }
 
-    /// Takes a word. Takes no memory.
-    pub(crate) fn take(&mut self, w: &Word) -> Came
-        requires ready { IsReady self.old }
-        requires index { index_of self.old.phase < 4096 }
-        ensures { Takes self.old w.now self.new result }
+    /// How many words were received.
+    pub fn received(&self) -> u16
+        ensures received { result ≡ self.now.taken }
+        ensures most { result ≤ self.now.total }
     {
-        match self.phase {
-            Phase::Reserve => self.take_reservation(w),
-            Phase::Burst { field, index } => self.take_in_burst(field, index, w),
-            Phase::Epoch => self.take_in_epoch(w),
-        }
+        self.taken
+    }
+
+    /// Takes the next received word.
+    pub fn receive(&mut self, w: &Word)
+        requires { self.old.taken < self.old.total }
+        ensures counted { self.new.taken ≡ self.old.taken + 1 }
+        ensures same_total { self.new.total ≡ self.old.total }
+        ensures stands { (total : ℕ) (words : List (List ℕ)) →
+            ReceiverStandsFor self.old total words → ReceiverStandsFor self.new total (words ++ w.now ∷ []) }
+    {
+        self.effect = self.kept.take(w);
+        self.taken += 1;
+    }
+
+    /// What the next word is for.
+    pub fn phase(&self) -> Phase
+        ensures { (total : ℕ) (words : List (List ℕ)) →
+            ReceiverStandsFor self.now total words → result ≡ phase_at (place_of words) }
+    {
+        self.kept.phase
+    }
+
+    /// The messages and values of the words received.
+    pub fn log(&self) -> &Log
+        ensures { (total : ℕ) (words : List (List ℕ)) →
+            ReceiverStandsFor self.now total words → result.now.entries ≡ log_of words }
+    {
+        &self.kept.log
     }
 
     /// The log alone.
-    pub(crate) fn into_log(self) -> Log
-        ensures { result ≡ self.log }
+    pub fn into_log(self) -> Log
+        ensures { (total : ℕ) (words : List (List ℕ)) →
+            ReceiverStandsFor self total words → result.entries ≡ log_of words }
     {
-        self.log
+        self.kept.into_log()
     }
 
-    /// Takes a reservation word.
-    fn take_reservation(&mut self, w: &Word) -> Came
-        requires { self.old.phase ≡ Phase.Reserve }
-        ensures { Takes self.old w.now self.new result }
+    /// What is kept of the words.
+    pub(crate) fn kept(&self) -> &Reception
+        ensures kept { result.now ≡ self.now.kept }
+        ensures ready { IsReady self.now.kept }
     {
-        self.granted = granted(w);
-        self.phase = place_from(&self.granted, 0, &mut self.epoch);
-        Came::Nothing
+        &self.kept
     }
 
-    /// Takes a word of the burst of a field.
-    fn take_in_burst(&mut self, field: u8, index: u16, w: &Word) -> Came
-        requires phase { self.old.phase ≡ Phase.Burst field index }
-        requires ready { IsReady self.old }
-        requires index { index < 4096 }
-        ensures { Takes self.old w.now self.new result }
+    /// The effect of the last word.
+    pub(crate) fn effect(&self) -> Effect
+        ensures effect { result ≡ self.now.effect }
+        ensures message { HasMessage result self.now.kept.burst }
     {
-        match take_next(&mut self.burst, index, w) {
-            BurstStep::Goes => {
-                let index = index + 1;
-                self.phase = Phase::Burst { field, index };
-                Came::Nothing
-            }
-            BurstStep::Message { .. } => {
-                self.log.put_long(self.burst.message());
-                self.phase = place_from(&self.granted, field + 1, &mut self.epoch);
-                Came::Message { field }
-            }
-            BurstStep::Void { .. } => {
-                self.phase = place_from(&self.granted, field + 1, &mut self.epoch);
-                Came::Nothing
-            }
-        }
-    }
-
-    /// Takes a word of the epoch.
-    fn take_in_epoch(&mut self, w: &Word) -> Came
-        requires phase { self.old.phase ≡ Phase.Epoch }
-        requires ready { IsReady self.old }
-        ensures { Takes self.old w.now self.new result }
-    {
-        self.epoch.take(w, &mut self.leaves);
-        put_leaves(&mut self.log, &self.leaves);
-        let over = is_over(&self.epoch);
-        self.phase = phase_after(over);
-        Came::Leaves { over }
-    }
-}
-
-/// The burst of the first granted field from a field on; where there is none the epoch, which is begun anew.
-fn place_from(granted: &Fields, from: u8, epoch: &mut Epoch) -> Phase
-    ensures { IsAt (fields_from granted.now from) granted.now result epoch.new }
-{
-    match granted.from(from) {
-        Some(field) => Phase::Burst { field, index: 0 },
-        None => {
-            epoch.restart();
-            Phase::Epoch
-        }
-    }
-}
-
-/// Begins a burst anew before its first word.
-fn begin(burst: &mut Burst, index: u16)
-    requires { 1 ≤ index → IsGoing burst.old.phase }
-    ensures going { IsGoing burst.new.phase }
-    ensures stands { (words : List (List ℕ)) → index ≡ length words → IsBegun index burst.old words →
-        BurstStandsFor burst.new words }
-{
-    if index == 0 {
-        burst.restart();
-    }
-}
-
-/// Takes word number `index` of a burst.
-fn take_next(burst: &mut Burst, index: u16, w: &Word) -> BurstStep
-    requires { 1 ≤ index → IsGoing burst.old.phase }
-    ensures { TakesNext index burst.old w.now burst.new result }
-{
-    begin(burst, index);
-    burst.take(w)
-}
-
-/// Whether an epoch takes no further word.
-fn is_over(epoch: &Epoch) -> bool
-    ensures { result ≡ is_done epoch.now }
-{
-    matches!(epoch.ask(), Ask::Over)
-}
-
-/// The phase after a word of an epoch.
-fn phase_after(over: bool) -> Phase
-    ensures { result ≡ phase_after over }
-{
-    if over { Phase::Reserve } else { Phase::Epoch }
-}
-
-/// Puts leaves at the end of a log.
-fn put_leaves(log: &mut Log, leaves: &Leaves)
-    ensures room { log.new.room ≡ log.old.room }
-    ensures entries { Fits (log.old.entries ++ map leaf_entry leaves.now) log.old.room →
-        log.new.entries ≡ log.old.entries ++ map leaf_entry leaves.now }
-{
-    for i in 0..leaves.len() {
-        let leaf = leaves.get(i);
-        log.put_short(&leaf.value, leaf.times);
+        self.effect
     }
 }

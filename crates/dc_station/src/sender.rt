@@ -1,255 +1,147 @@
-//! What a station has to say, and what of it was sent.
+//! What a station of a session keeps of its sending. The sender does not keep the stream: each call is
+//! given it, so that a stream that is shared or borrowed is not copied.
 
-ghost use Rattle.std.specs.Prelude.{◌≡◌, ℕ, ◌<◌, ◌≤◌, false, List, [], IfOk, IfSome, IsTrue, ◌↔◌, Some, drop, length, slice_get};
-ghost use Rattle.std.specs.List.{list_any};
-ghost use Rattle.dc_formats.specs.StreamFile.{IsStream};
-ghost use Rattle.dc_station_rules.specs.Epochs.{epoch_of};
-ghost use Rattle.dc_station_rules.specs.Stations.{burst_word, epoch_word, first_short, is_leaf_of, mark_word, marked};
-ghost use Rattle.dc_average.specs.StandsFor.{StandsFor as EpochStandsFor, is_done};
-ghost use Rattle.dc_station.specs.Sending.{Ends, IsUsable, SendsLong, SendsShort, if_any, is_first, is_mark, left, longs_of, one_if, shorts_of};
+ghost use Rattle.std.specs.Prelude.{◌≡◌, ℕ, ◌+◌, ◌≤◌, List, [], ◌∷◌, ◌++◌, IfOk};
+ghost use Rattle.dc_spec.specs.Entries.{Stream as stream_record};
+ghost use Rattle.dc_station_rules.specs.Stations.{pending_counts, plain_word, sent_of};
+ghost use Rattle.dc_station.specs.Receiving.{HasMessage};
+ghost use Rattle.dc_station.specs.Sending.{IsWithin};
+ghost use Rattle.dc_station.specs.Hearing.{Hears, HearsLeaves};
+ghost use Rattle.dc_station.specs.State.{IsSenderOf};
+ghost use Rattle.dc_station.specs.StandsFor.{ReceiverStandsFor, SenderStandsFor};
 
 use crate::log::Log;
-use crate::phase::Pending;
-use crate::words::{long_word, mark_word, value_word};
-use dc_average::{Epoch, Leaf, Leaves};
-use dc_field::{NoMemory, Value, Word};
+use crate::phase::{Pending, Phase};
+use crate::progress::Progress;
+use crate::receiver::Receiver;
+use crate::reception::{Effect, Reception};
+use dc_average::Leaves;
+use dc_field::{NoMemory, Word};
 use dc_stream::Stream;
 use std::alloc::Global;
+use std::marker::Model;
 
-/// What a station has to say. Within a cycle it goes by what was pending when the cycle began.
+/// The sending part of a station, in a session of so many words. All its memory is allocated at the start.
 #[derive(Drop)]
-pub(crate) struct Sender {
-    pub(crate) stream: Stream,
-    /// How many values were sent before the cycle began.
-    pub(crate) shorts_used: usize,
-    /// How many messages were sent before the cycle began.
-    pub(crate) longs_used: usize,
-    /// How many coins were used up before the cycle began.
-    pub(crate) coins_used: usize,
-    /// Whether the cycle sent a value.
-    pub(crate) short_sent: bool,
-    /// Whether the cycle sent a message.
-    pub(crate) long_sent: bool,
-    /// The entries that were sent.
-    pub(crate) log: Log,
+pub struct Sender {
+    taken: u16,
+    total: u16,
+    progress: Progress,
+}
+
+impl Model for Sender {
+    ghost use Rattle.std.specs.Prelude.{◌≡◌};
+    ghost use Rattle.dc_station.specs.State.{SenderState};
+
+    ghost Value = { SenderState };
+
+    ghost view = { λ s. record { taken = s.taken; total = s.total; progress = s.progress } };
+
+    ghost invariant = { λ s. s.progress.log.room ≡ s.total };
 }
 
 impl Sender {
-    /// A sender of which nothing was sent.
-    pub(crate) fn start(alloc: Global, stream: Stream, words: u16) -> Result<Sender, NoMemory>
-        ensures usable { IfOk result IsUsable }
-        ensures room { IfOk result (λ s. s.log.room ≡ words) }
-        ensures left { IfOk result (λ s. left s ≡ stream) }
-        ensures short { IfOk result (λ s. s.short_sent ≡ false) }
-        ensures long { IfOk result (λ s. s.long_sent ≡ false) }
-        ensures log { IfOk result (λ s. s.log.entries ≡ []) }
+    /// A sender of any stream, of which nothing was sent, in a session of 1 to 4096 words.
+    pub fn start(alloc: Global, words: u16) -> Result<Sender, NoMemory>
+        requires some { 1 ≤ words }
+        requires most { words ≤ 4096 }
+        ensures own { IfOk result (λ sender. (stream : stream_record) → IsSenderOf sender stream) }
+        ensures stands { IfOk result (λ sender. (stream : stream_record) →
+            SenderStandsFor sender stream words []) }
     {
-        hold_limits(&stream);
-        let log = Log::start(alloc, words)?;
+        let progress = Progress::start(alloc, words)?;
         Ok(Sender {
-            stream,
-            shorts_used: 0,
-            longs_used: 0,
-            coins_used: 0,
-            short_sent: false,
-            long_sent: false,
-            log,
+            taken: 0,
+            total: words,
+            progress,
         })
     }
 
-    /// The word at a reservation: it marks the next coin, if a message is pending and a coin is left.
-    pub(crate) fn reservation_word(&self) -> Word
-        ensures { result ≡ mark_word (marked (left self.now)) }
+    /// The word that a station with this stream and this receiver sends next, before its keys are added.
+    pub fn plain(&self, stream: &Stream, receiver: &Receiver) -> Word
+        ensures { (total : ℕ) (words : List (List ℕ)) → SenderStandsFor self.now stream.now total words →
+            ReceiverStandsFor receiver.now total words → result ≡ plain_word stream.now words }
     {
-        match self.mark() {
-            Some(field) => mark_word(field),
-            None => Word::zero(),
+        let kept = receiver.kept();
+        match kept.phase {
+            Phase::Reserve => self.progress.reservation_word(stream),
+            Phase::Burst { field, index } => self.progress.burst_word(stream, field, index),
+            Phase::Epoch => self.progress.epoch_word(stream, &kept.epoch),
         }
     }
 
-    /// Word `index` of the burst of a field.
-    pub(crate) fn burst_word(&self, field: u8, index: u16) -> Word
-        ensures { result ≡ burst_word (marked (left self.now)) field (left self.now).longs index }
+    /// Takes the word that the receiver received last: it is one word ahead of the sender.
+    pub fn take(&mut self, stream: &Stream, receiver: &Receiver)
+        requires own { IsSenderOf self.old stream.now }
+        requires ahead { receiver.now.taken ≡ self.old.taken + 1 }
+        requires session { receiver.now.total ≡ self.old.total }
+        ensures own { IsSenderOf self.new stream.now }
+        ensures counted { self.new.taken ≡ receiver.now.taken }
+        ensures same_total { self.new.total ≡ self.old.total }
+        ensures stands { (total : ℕ) (words : List (List ℕ)) (word : List ℕ) →
+            SenderStandsFor self.old stream.now total words →
+            ReceiverStandsFor receiver.now total (words ++ word ∷ []) →
+            SenderStandsFor self.new stream.now total (words ++ word ∷ []) }
     {
-        if self.marks(field) {
-            long_word(self.stream.longs.as_slice(), self.longs_used, index)
-        } else {
-            Word::zero()
-        }
+        hear(
+            &mut self.progress,
+            stream,
+            receiver.effect(),
+            receiver.kept(),
+        );
+        self.taken = receiver.received();
     }
 
-    /// The next word of an epoch.
-    pub(crate) fn epoch_word(&self, epoch: &Epoch) -> Word
-        requires { is_done epoch.now ≡ false }
-        ensures { (words : List (List ℕ)) → EpochStandsFor epoch.now words →
-            result ≡ epoch_word (left self.now).shorts (epoch_of words) }
+    /// The entries of the stream that count as sent.
+    pub fn sent(&self) -> &Log
+        ensures { (stream : stream_record) (total : ℕ) (words : List (List ℕ)) →
+            SenderStandsFor self.now stream total words → result.now.entries ≡ sent_of stream words }
     {
-        match self.first_short() {
-            Some(value) => value_word(epoch, &value),
-            None => Word::zero(),
-        }
+        &self.progress.log
     }
 
-    /// Takes the message of the burst of a field: it may be the station's own. Takes no memory.
-    pub(crate) fn take_message(&mut self, field: u8, message: &[u8])
-        requires { IsUsable self.old }
-        ensures { SendsLong self.old (longs_of (left self.old) field message.now) self.new }
+    /// How many entries of the stream are pending.
+    pub fn pending(&self, stream: &Stream) -> Pending
+        requires { IsSenderOf self.now stream.now }
+        ensures { (total : ℕ) (words : List (List ℕ)) → SenderStandsFor self.now stream.now total words →
+            (result.shorts, result.longs) ≡ pending_counts stream.now words }
     {
-        if self.marks(field) && self.is_first_long(message) {
-            self.long_sent = true;
-            self.log.put_long(message);
-        }
-    }
-
-    /// Takes the leaves of a word of an epoch: the station's own value may be among them. Takes no memory.
-    pub(crate) fn take_leaves(&mut self, leaves: &Leaves)
-        requires { IsUsable self.old }
-        ensures { SendsShort self.old (shorts_of self.old.short_sent (left self.old) leaves.now) self.new }
-    {
-        if self.short_sent {
-            return;
-        }
-        match self.first_short() {
-            Some(value) => self.take_leaves_of(&value, leaves),
-            None => {}
-        }
-    }
-
-    /// Takes leaves, where this is the first pending value and not yet sent. Takes no memory.
-    fn take_leaves_of(&mut self, value: &Value, leaves: &Leaves)
-        requires usable { IsUsable self.old }
-        requires first { slice_get self.old.stream.shorts self.old.shorts_used ≡ Some value.now }
-        requires unsent { self.old.short_sent ≡ false }
-        ensures { SendsShort self.old (if_any (list_any (is_leaf_of value.now) leaves.now) value.now) self.new }
-    {
-        if has_leaf_of(leaves, value) {
-            self.short_sent = true;
-            self.log.put_short(value, 1);
-        }
-    }
-
-    /// Ends a cycle: what it sent is pending no more, and the coin that it marked is used up.
-    pub(crate) fn end_cycle(&mut self)
-        requires { IsUsable self.old }
-        ensures { Ends self.old self.new }
-    {
-        let coins = one_if(self.mark().is_some());
-        let shorts = one_if(self.short_sent);
-        let longs = one_if(self.long_sent);
-        self.coins_used += coins;
-        self.shorts_used += shorts;
-        self.longs_used += longs;
-        self.short_sent = false;
-        self.long_sent = false;
-    }
-
-    /// How many values and messages are pending.
-    pub(crate) fn pending(&self) -> Pending
-        requires { IsUsable self.now }
-        ensures shorts { result.shorts ≡ length (drop (one_if self.now.short_sent) (left self.now).shorts) }
-        ensures longs { result.longs ≡ length (drop (one_if self.now.long_sent) (left self.now).longs) }
-    {
-        let shorts = self.stream.shorts.as_slice().len();
-        let longs = self.stream.longs.as_slice().len();
-        Pending {
-            shorts: (shorts - self.shorts_used - one_if(self.short_sent)) as u32,
-            longs: (longs - self.longs_used - one_if(self.long_sent)) as u32,
-        }
+        self.progress.pending(stream)
     }
 
     /// The list of sent entries alone.
-    pub(crate) fn into_log(self) -> Log
-        ensures { result ≡ self.log }
+    pub fn into_log(self) -> Log
+        ensures { (stream : stream_record) (total : ℕ) (words : List (List ℕ)) →
+            SenderStandsFor self stream total words → result.entries ≡ sent_of stream words }
     {
-        self.log
-    }
-
-    /// The field that the station marks in this cycle.
-    fn mark(&self) -> Option<u8>
-        ensures mark { result ≡ marked (left self.now) }
-        ensures field { IfSome result (λ field. field < 16) }
-    {
-        if self.has_long() {
-            self.next_coin()
-        } else {
-            None
-        }
-    }
-
-    /// Whether a message is pending.
-    fn has_long(&self) -> bool
-        ensures { IsTrue result ↔ (self.now.longs_used < length self.now.stream.longs) }
-    {
-        self.longs_used < self.stream.longs.as_slice().len()
-    }
-
-    /// The next coin.
-    fn next_coin(&self) -> Option<u8>
-        ensures coin { result ≡ slice_get self.now.stream.coins self.now.coins_used }
-        ensures field { IfSome result (λ field. field < 16) }
-    {
-        self.stream.coins.as_slice().get(self.coins_used).copied()
-    }
-
-    /// Whether the station marks a field in this cycle.
-    fn marks(&self, field: u8) -> bool
-        ensures { result ≡ is_mark field (marked (left self.now)) }
-    {
-        match self.mark() {
-            Some(mark) => mark == field,
-            None => false,
-        }
-    }
-
-    /// Whether a message is the first pending one.
-    fn is_first_long(&self, message: &[u8]) -> bool
-        ensures { result ≡ is_first message.now (left self.now).longs }
-    {
-        match self.stream.longs.as_slice().get(self.longs_used) {
-            Some(long) => message == long.as_slice(),
-            None => false,
-        }
-    }
-
-    /// The first pending value.
-    fn first_short(&self) -> Option<Value>
-        ensures { result ≡ slice_get self.now.stream.shorts self.now.shorts_used }
-    {
-        self.stream.shorts.as_slice().get(self.shorts_used).copied()
+        self.progress.into_log()
     }
 }
 
-/// A stream is within its limits.
-fn hold_limits(stream: &Stream)
-    ensures { IsStream stream.now }
+/// Takes the effect of a word.
+fn hear(progress: &mut Progress, stream: &Stream, effect: Effect, kept: &Reception)
+    requires within { IsWithin stream.now progress.old }
+    requires message { HasMessage effect kept.now.burst }
+    ensures within { IsWithin stream.now progress.new }
+    ensures room { progress.new.log.room ≡ progress.old.log.room }
+    ensures hears { Hears effect stream.now progress.old kept.now progress.new }
 {
-    let _ = &stream.shorts;
-}
-
-/// One where something is so, else none.
-fn one_if(so: bool) -> usize
-    ensures { result ≡ one_if so }
-{
-    if so { 1 } else { 0 }
-}
-
-/// Whether a leaf of a value is among leaves: the leaf is the value, and its range holds the value's number.
-fn has_leaf_of(leaves: &Leaves, value: &Value) -> bool
-    ensures { result ≡ list_any (is_leaf_of value.now) leaves.now }
-{
-    for i in 0..leaves.len() {
-        if is_leaf_of(&leaves.get(i), value) {
-            return true;
-        }
+    match effect {
+        Effect::Nothing => {}
+        Effect::Message { field } => progress.take_message(stream, field, kept.burst.message()),
+        Effect::Leaves { over } => hear_leaves(progress, stream, &kept.leaves, over),
     }
-    false
 }
 
-/// Whether a leaf is a value, and its range holds the value's number.
-fn is_leaf_of(leaf: &Leaf, value: &Value) -> bool
-    ensures { result ≡ is_leaf_of value.now leaf.now }
+/// Takes the leaves of a word, and the end of the cycle where it is over.
+fn hear_leaves(progress: &mut Progress, stream: &Stream, leaves: &Leaves, over: bool)
+    requires { IsWithin stream.now progress.old }
+    ensures within { IsWithin stream.now progress.new }
+    ensures room { progress.new.log.room ≡ progress.old.log.room }
+    ensures hears { HearsLeaves over stream.now progress.old leaves.now progress.new }
 {
-    leaf.value.bytes.as_slice() == value.bytes.as_slice()
-        && leaf.low <= value.number()
-        && value.number() <= leaf.high
+    progress.take_leaves(stream, leaves);
+    if over {
+        progress.end_cycle(stream);
+    }
 }

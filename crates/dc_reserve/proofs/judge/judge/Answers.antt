@@ -10,8 +10,8 @@ push_limbs-requires-clause-limbs c =
     let none : own_fault c.args.phase c.args.w.now ≡ None = search rules in
     limbs_small c.args.w.now (own_none c.args.phase c.args.w.now none).1
 
-pub told_length-length-requires : goal.told_length-length-requires
-told_length-length-requires c =
+pub announced_length-length-requires : goal.announced_length-length-requires
+announced_length-length-requires c =
     let none : own_fault c.args.phase c.args.w.now ≡ None = search rules in
     let after = after_word c.args.phase c.args.bytes.now.items c.args.w.now c.requires.going c.requires.fits none in
     rw (c.deref.ensures.value, c.push_limbs.ensures.bytes) (omega (arith, after.long))
@@ -22,7 +22,7 @@ first_stray-requires c =
     let after = after_word c.args.phase c.args.bytes.now.items c.args.w.now c.requires.going c.requires.fits none in
     let one : word_count c.args.w.now ≡ 1 = sym (ap (λ (w : List ℕ). get_or w 0 0) c.numbers.ensures.value) ∙ c.if-numbers-ne1.false in
     let fits = message_fits c.args.w.now (c.args.bytes.now.items ++ word_limbs c.args.w.now) after one in
-    let told : c.from.result ≡ short_at (c.args.bytes.now.items ++ word_limbs c.args.w.now) 0 = c.from.ensures ∙ c.told_length-length.ensures ∙ ap (λ (bytes : List ℕ). short_at bytes 0) (c.deref.ensures.value ∙ c.push_limbs.ensures.bytes) in
+    let told : c.from.result ≡ short_at (c.args.bytes.now.items ++ word_limbs c.args.w.now) 0 = c.from.ensures ∙ c.announced_length-length.ensures ∙ ap (λ (bytes : List ℕ). short_at bytes 0) (c.deref.ensures.value ∙ c.push_limbs.ensures.bytes) in
     rw (c.deref-2.ensures.value, c.push_limbs.ensures.bytes, told) fits
 
 pub overflow_cast-result : goal.overflow_cast-result

@@ -1,6 +1,7 @@
-use Rattle.std.proofs.Common.{refl, ap}
-use Rattle.dc_station.proofs.ReceivingLemmas.{receives_none}
+use Rattle.std.proofs.Common.{refl}
+use Rattle.dc_station.specs.declared.reception.Effect.TheVariants.{Nothing}
+use Rattle.dc_station.proofs.ReceivingLemmas.{no_last}
 use Rattle.dc_station.proofs.receiver.Receiver.start.Goals as goal
 
-pub returns-clause-receives : goal.returns-clause-receives
-returns-clause-receives c = receives_none _ refl (ap (λ l. l.entries) c.in_ok-log.ensures)
+pub returns : goal.returns
+returns c = record { session = refl; counted = refl; receives = c.in_ok-kept.ensures.receives; last = no_last Nothing c.in_ok-kept.kept }

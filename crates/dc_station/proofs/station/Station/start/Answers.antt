@@ -1,8 +1,13 @@
-use Rattle.std.proofs.Common.{refl}
-use Rattle.dc_station.proofs.StationLemmas.{sends_none}
+use Rattle.std.proofs.Common.{refl, sym, ◌∙◌}
 use Rattle.dc_station.proofs.station.Station.start.Goals as goal
 
 pub returns : goal.returns
 returns c =
-    let sender = c.in_ok-sender.sender in
-    record { session = refl; counted = refl; receives = c.in_ok-receiver.ensures.receives; sends = sends_none sender c.args.stream c.in_ok-sender.ensures.left c.in_ok-sender.ensures.short c.in_ok-sender.ensures.long c.in_ok-sender.ensures.log }
+    let receives = c.in_ok-receiver.ensures in
+    record { session = receives.session; counted = receives.counted; own = refl; receives = receives; sends = c.in_ok-sender.ensures.stands c.args.stream }
+
+pub invariant_of-result : goal.invariant_of-result
+invariant_of-result c =
+    let receives = c.in_ok-receiver.ensures in
+    let sends = c.in_ok-sender.ensures.stands c.args.stream in
+    record { level = sends.counted ∙ sym receives.counted; session = sends.session ∙ sym receives.session; own = c.in_ok-sender.ensures.own c.args.stream }

@@ -1,8 +1,0 @@
-use Rattle.dc_station.proofs.receiver.take_next.Goals as goal
-
-pub returns : goal.returns
-returns c = record {
-  phase = c.take.ensures.phase;
-  stands = λ words counted begun. c.take.ensures.stands words (c.begin.ensures.stands words counted begun);
-  tells = λ words counted begun. c.take.ensures.step words (c.begin.ensures.stands words counted begun);
-}

@@ -1,8 +1,0 @@
-use Rattle.std.proofs.Common.{◌∙◌, rules}
-use Rattle.dc_station.proofs.SendingLemmas.{mark_left}
-use Rattle.dc_station.proofs.sender.Sender.mark.Goals as goal
-
-pub returns-then-has_long-clause-mark : goal.returns-then-has_long-clause-mark
-returns-then-has_long-clause-mark c =
-    let self = c.args.self.now in
-    c.next_coin.ensures.coin ∙ mark_left self.stream.longs self.longs_used self.stream.coins self.coins_used (search rules)

@@ -1,7 +1,0 @@
-use Rattle.std.proofs.Common.{◌≡◌, ◌+◌}
-use Rattle.dc_station.proofs.session_tests.first_wrong.Given as goal
-
--- as many words as were received, and as many as are left, make the session's
-abbrev pub invariant-loop-n : goal.invariant-loop-n
-invariant-loop-n l =
-    (goal.iterator-loop-n).can_next l.n-iterator × (goal.iterator-loop-n).is_finite l.n-iterator × (l.station.taken + l.left ≡ l.station.total)
