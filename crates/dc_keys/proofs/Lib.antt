@@ -1,3 +1,4 @@
-mod KeySums
+pub mod KeySums
 mod SignedSums
-mod StationKeys
+pub mod StationKeys
+mod PadSums

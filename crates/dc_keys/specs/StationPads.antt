@@ -1,37 +1,46 @@
--- The pads of a station: for each number the sum of its pairs' pads, those that it subtracts with a minus sign.
-use Rattle.std.specs.Prelude.{ℕ, ◌+◌, ◌-◌, ◌*◌, ◌%◌, ◌==◌, Bool, List, length, map, filter, sum_by, slice_index}
+-- The pads of a station: for each number the signed sum of its pairs' pads.
+use Rattle.std.specs.Prelude.{ℕ, ◌+◌, ◌-◌, ◌*◌, ◌/◌, ◌%◌, ◌<◌, ◌≤◌, ◌≡◌, ◌==◌, List, length, map, filter, sum_by, slice_index, All}
 use Rattle.std.specs.List.{range_with_len}
+use Rattle.dc_spec.specs.Words.{IsSymbol}
 use Rattle.dc_spec.specs.Pads.{Pair, Keys}
-use Rattle.dc_key_rules.specs.PairKeys.{symbols, key_word}
-use Rattle.dc_keys.specs.declared.summed_pads.Side.{Side}
-use Rattle.dc_keys.specs.declared.summed_pads.Side.TheVariants.{Plus, Minus}
+use Rattle.dc_formats.specs.KeyFile.{IsKeys}
+use Rattle.dc_key_rules.specs.PairKeys.{symbols, key_word, key_part}
 
--- for so many words, sixteen first and sixteen second pads a word
+-- as many first as second pads
 pub record StationPads : Type 0 where
-  pub words : ℕ
   pub first : List ℕ
   pub second : List ℕ
 
--- whether a station adds the key of a pair, or subtracts it
-abbrev pub is_side : Side → ℕ → Pair → Bool
-is_side Plus me p = p.u == me
-is_side Minus me p = p.v == me
+-- for how many words there are pads, sixteen a word
+abbrev pub pad_words : StationPads → ℕ
+pad_words p = length p.first / 16
 
--- pad n of the pairs that are added, minus that of the pairs that are subtracted
-abbrev pub signed_pad : (Pair → List ℕ) → List Pair → List Pair → ℕ → ℕ
-signed_pad pads plus minus n = (sum_by (λ p. slice_index (pads p) n) plus + sum_by (λ p. 65537 - slice_index (pads p) n) minus) % 65537
+-- 1 to 4096 words, for each sixteen first and sixteen second pads, the first second pad 0
+pub record IsStationPads (p : StationPads) : Type 0 where
+  pub some_words : 1 ≤ pad_words p
+  pub most_words : pad_words p ≤ 4096
+  pub first_pads : length p.first ≡ 16 * pad_words p
+  pub second_pads : length p.second ≡ 16 * pad_words p
+  pub first_symbols : All IsSymbol p.first
+  pub second_symbols : All IsSymbol p.second
+  pub no_first : slice_index p.second 0 ≡ 0
+
+-- pad n of the pairs whose smaller end is station me, minus pad n of those whose larger end it is
+abbrev pub signed_pad : (Pair → List ℕ) → List Pair → ℕ → ℕ → ℕ
+signed_pad pads pairs me n = (sum_by (λ p. slice_index (pads p) n) (filter (λ p. p.u == me) pairs) + sum_by (λ p. 65537 - slice_index (pads p) n) (filter (λ p. p.v == me) pairs)) % 65537
 
 -- the signed sums for so many words
-unfoldable pub signed_pads : (Pair → List ℕ) → List Pair → List Pair → ℕ → List ℕ
-signed_pads pads plus minus words = map (signed_pad pads plus minus) (range_with_len 0 (16 * words))
+unfoldable pub signed_pads : (Pair → List ℕ) → List Pair → ℕ → ℕ → List ℕ
+signed_pads pads pairs me words = map (signed_pad pads pairs me) (range_with_len 0 (16 * words))
 
-abbrev pub signed_sums : List Pair → List Pair → ℕ → StationPads
-signed_sums plus minus words = record { words = words; first = signed_pads (λ p. p.a) plus minus words; second = signed_pads (λ p. p.b) plus minus words }
-
--- the pads of station me: it adds as the smaller end, and subtracts as the greater end
+-- the pads of station me: the signed sums of the first pads, and those of the second pads
 abbrev pub station_pads : Keys → ℕ → StationPads
-station_pads keys me = signed_sums (filter (is_side Plus me) keys.pairs) (filter (is_side Minus me) keys.pairs) keys.words
+station_pads keys me = record { first = signed_pads (λ p. p.a) keys.pairs me keys.words; second = signed_pads (λ p. p.b) keys.pairs me keys.words }
 
--- the key that summed pads give for the word after a history
+-- the key that the pads of a station give for the word after a history
 abbrev pub station_key : StationPads → List (List ℕ) → List ℕ
 station_key pads history = key_word (record { u = 0; v = 0; a = pads.first; b = pads.second }) (symbols history) (length history)
+
+-- the key that the summed pads give is the signed sum of the keys of the station's pairs
+abbrev pub KeysOfSummedPads : Type 0
+KeysOfSummedPads = (keys : Keys) (me : ℕ) (history : List (List ℕ)) → IsKeys keys → length history < keys.words → station_key (station_pads keys me) history ≡ key_part keys.pairs me history

@@ -1,4 +1,4 @@
-//! A key file.
+//! Key files: the pads of all pairs of a session.
 
 ghost use Rattle.std.specs.Prelude.{◌≡◌, ◌↔◌, IsTrue, IfOk, SomeIff};
 ghost use Rattle.dc_formats.specs.KeyFile.{IsKeys, IsPair, IsBefore};
@@ -8,15 +8,16 @@ use dc_field::NoMemory;
 use std::alloc::Global;
 use std::marker::Model;
 
-/// The pairs that share pads in a session, each pair once, rising by their ends. All pads
-/// together are at most 2^26.
+/// The pairs that share pads in a session, each once, in rising order of their ends. All pads
+/// together are at most 2^26 symbols. The limits are this project's own.
 #[derive(Drop)]
 pub struct KeyFile {
-    /// 1 to 256.
+    /// The number of stations of the session, 1 to 256.
     pub stations: u16,
-    /// 1 to 4096: the number of rounds that the pads are for.
+    /// The number of words (one a round) of the session, 1 to 4096.
     pub words: u16,
-    /// Each with its smaller end first, and sixteen first and sixteen second pads a word.
+    /// The pairs, each with its smaller end first, and with sixteen first and sixteen second pads a
+    /// word.
     pub pairs: Pairs,
 }
 
@@ -32,7 +33,7 @@ impl Model for KeyFile {
 }
 
 impl KeyFile {
-    /// The key file of these pairs, where they are one.
+    /// The key file of these parts; `None` exactly where they break a rule of key files.
     pub fn new(stations: u16, words: u16, pairs: Pairs) -> Option<KeyFile>
         ensures { SomeIff result (IsKeys (record { stations = stations; words = words; pairs = pairs })) (record { stations = stations; words = words; pairs = pairs }) }
     {
@@ -47,7 +48,7 @@ impl KeyFile {
         }
     }
 
-    /// The same key file again.
+    /// A copy of the key file.
     pub fn copy(&self, alloc: Global) -> Result<KeyFile, NoMemory>
         ensures { IfOk result (λ f. f ≡ self.now) }
     {
@@ -60,7 +61,7 @@ impl KeyFile {
     }
 }
 
-/// Whether pairs are those of a key file for so many stations and words.
+/// Whether these parts keep all rules of key files.
 fn are_keys(stations: u16, words: u16, pairs: &[PairKey]) -> bool
     ensures { IsTrue result ↔ IsKeys (record { stations = stations; words = words; pairs = pairs.now }) }
 {
@@ -81,7 +82,8 @@ fn are_keys(stations: u16, words: u16, pairs: &[PairKey]) -> bool
     true
 }
 
-/// Whether a pair is one of so many stations, with pads for so many words.
+/// Whether the ends of a pair rise and are below the number of stations, and whether it has pads
+/// for so many words.
 fn is_pair(stations: u16, words: u16, pair: &PairKey) -> bool
     ensures { IsTrue result ↔ IsPair stations words pair.now }
 {
@@ -92,7 +94,7 @@ fn is_pair(stations: u16, words: u16, pair: &PairKey) -> bool
         && pair.b.as_slice().len() == pads
 }
 
-/// Whether a pair comes before another.
+/// Whether a pair comes before another by its ends.
 fn is_before(p: &PairKey, q: &PairKey) -> bool
     ensures { IsTrue result ↔ IsBefore p.now q.now }
 {

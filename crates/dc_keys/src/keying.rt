@@ -9,29 +9,26 @@ use crate::adding::{add_products, reduced, widened};
 use crate::pair_key::PairKey;
 use dc_field::{Word, Words};
 
-/// The key of a pair for word `t`, after the first `t` received words.
+/// The key of a pair for word `t`, from 0, after the first `t` received words: symbol `l` is first
+/// pad `16 * t + l` plus the sum of second pad `16 * t + l - k` times received symbol `k`, over the
+/// `16 * t` symbols received before, modulo 65537. Words received from word `t` on do not count.
 pub fn key_word(pair: &PairKey, received: &Words, t: u16) -> Word
-    requires within { 16 * t < length pair.now.a }
-    requires history { t ≤ length received.now }
-    ensures { result ≡ key_word_of pair.now (symbols received.now) t }
-{
-    key_after(pair, received.as_slice(), t)
-}
-
-/// As `key_word`, over a slice.
-pub(crate) fn key_after(pair: &PairKey, received: &[Word], t: u16) -> Word
     requires within { 16 * t < length pair.now.a }
     requires history { t ≤ length received.now }
     ensures { result ≡ key_word_of pair.now (symbols received.now) t }
 {
     let start = 16 * usize::from(t);
     let first = &pair.a.as_slice()[start..start + 16];
-    let totals = key_totals(first, pair.b.as_slice(), &received[..usize::from(t)]);
+    let totals = key_totals(
+        first,
+        pair.b.as_slice(),
+        &received.as_slice()[..usize::from(t)],
+    );
     reduced(&totals)
 }
 
-/// The sums of a key before they are reduced: sixteen first pads, and for each received symbol
-/// before them the products with the second pads.
+/// The symbols of a key before they are reduced: each is a first pad plus the products of all
+/// received symbols with second pads.
 fn key_totals(first: &[u32], second: &[u32], received: &[Word]) -> [u64; 16]
     requires sixteen { length first.now ≡ 16 }
     requires first_symbols { All IsSymbol first.now }

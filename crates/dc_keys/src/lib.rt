@@ -1,4 +1,4 @@
-//! Pair keys, key files, and the summed pads of a station.
+//! Pair keys, key files, the key of a pair, and the summed pads of a station.
 #![tactic(auto)]
 
 mod adding;
@@ -7,10 +7,8 @@ mod keying;
 mod pair_key;
 mod summed_pads;
 
+pub use adding::reduced;
 pub use key_file::KeyFile;
 pub use keying::key_word;
 pub use pair_key::{PairKey, Pairs};
-pub use summed_pads::SummedPads;
-
-#[cfg(test)]
-mod tests;
+pub use summed_pads::{SummedPads, summed_pads_law};

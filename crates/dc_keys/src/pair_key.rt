@@ -8,21 +8,21 @@ use dc_field::{Items, NoMemory, Syms, TryClone};
 use std::alloc::Global;
 use std::marker::Model;
 
-/// The pads of stations `u` and `v`, for a session of T words, T from 1 to 4096: sixteen first
-/// and sixteen second pads a word, of which the first second pad is 0.
+/// The pads that stations `u` and `v` share, for a session of T words, T from 1 to 4096: sixteen
+/// first and sixteen second pads a word. The first of the second pads is 0.
 #[derive(Drop)]
 pub struct PairKey {
-    /// The end that adds the key.
+    /// The station that adds the key; in a key file it is the smaller end.
     pub u: u16,
-    /// The end that subtracts the key.
+    /// The station that subtracts the key; in a key file it is the larger end.
     pub v: u16,
-    /// The first pads: pad `16 * t + l` is part of symbol `l` of word `t`.
+    /// The first pads: pad `16 * t + l` is added to symbol `l` of the key of word `t`.
     pub a: Syms,
-    /// The second pads: pad `n - k` is what received symbol `k` is multiplied by in symbol `n`.
+    /// The second pads: in symbol `n` of the keys, received symbol `k` is multiplied by pad `n - k`.
     pub b: Syms,
 }
 
-/// Pairs. In a key file they rise by their ends.
+/// A list of pairs. In a key file they are in rising order of their ends.
 pub type Pairs = Items<PairKey>;
 
 impl Model for PairKey {
@@ -37,7 +37,8 @@ impl Model for PairKey {
 }
 
 impl PairKey {
-    /// The pads of two stations, where they are such pads.
+    /// The pair of these parts; `None` exactly where the pads are not sixteen first and sixteen second
+    /// ones for each of 1 to 4096 words, or the first second pad is not 0.
     pub fn new(u: u16, v: u16, a: Syms, b: Syms) -> Option<PairKey>
         ensures { SomeIff result (IsPairKey (record { u = u; v = v; a = a; b = b })) (record { u = u; v = v; a = a; b = b }) }
     {
@@ -49,7 +50,7 @@ impl PairKey {
     }
 }
 
-/// The same ends and pads again.
+/// A copy of the ends and the pads.
 impl TryClone for PairKey {
     fn try_clone(&self, alloc: Global) -> Result<PairKey, NoMemory> {
         let a = copied(alloc, &self.a)?;
@@ -63,7 +64,7 @@ impl TryClone for PairKey {
     }
 }
 
-/// The same symbols again.
+/// A copy of a list of symbols.
 fn copied(alloc: Global, symbols: &Syms) -> Result<Syms, NoMemory>
     ensures { IfOk result (λ s. s ≡ symbols.now) }
 {
@@ -71,7 +72,7 @@ fn copied(alloc: Global, symbols: &Syms) -> Result<Syms, NoMemory>
     Ok(Syms::from_vec(items))
 }
 
-/// Whether first and second pads are those of a pair, for 1 to 4096 words.
+/// Whether first and second pads have the lengths and the first second pad of a pair.
 fn are_pads(a: &[u32], b: &[u32]) -> bool
     requires first { All IsSymbol a.now }
     requires second { All IsSymbol b.now }

@@ -1,116 +1,94 @@
 //! The pads of one station, summed over its pairs.
 
-ghost use Rattle.std.specs.Prelude.{◌≡◌, ◌*◌, ◌≤◌, ◌<◌, ℕ, length, IfOk, All, filter};
-ghost use Rattle.dc_spec.specs.Pads.{Keys};
-ghost use Rattle.dc_key_rules.specs.PairKeys.{key_sum, key_part};
-ghost use Rattle.dc_formats.specs.KeyFile.{IsKeys};
+ghost use Rattle.std.specs.Prelude.{◌≡◌, ◌+◌, ◌-◌, ◌*◌, ◌%◌, ◌≤◌, ◌<◌, ℕ, length, slice_index, if◌then◌else◌, IfOk, All};
+ghost use Rattle.dc_spec.specs.Words.{IsSymbol};
 ghost use Rattle.dc_keys.specs.Pads.{IsPadded};
-ghost use Rattle.dc_keys.specs.StationPads.{is_side, station_pads, station_key};
+ghost use Rattle.dc_keys.specs.StationPads.{pad_words, signed_pad, station_pads, KeysOfSummedPads};
 
+use crate::adding::{add_pads, subtract_pads};
 use crate::key_file::KeyFile;
-use crate::keying::key_after;
-use crate::pair_key::{PairKey, Pairs};
-use dc_field::{NoMemory, TryClone, Word};
+use crate::pair_key::PairKey;
+use dc_field::{NoMemory, Syms};
 use std::alloc::Global;
 use std::marker::Model;
 
-/// The pads of a station: the sums of the pads of its pairs, those that it subtracts with a minus
-/// sign. For now they are kept as the pairs themselves, and summed in each key.
+/// The pads of one station for a session of T words, T from 1 to 4096: sixteen first and sixteen
+/// second pads a word. Each is the sum modulo 65537 of the pads of the station's pairs, with a
+/// plus sign where it is the smaller end and a minus sign where it is the larger end.
 #[derive(Drop)]
 pub struct SummedPads {
-    words: u16,
-    plus: Pairs,
-    minus: Pairs,
+    /// The sums of the first pads.
+    pub first: Syms,
+    /// The sums of the second pads. The first of them is 0.
+    pub second: Syms,
 }
 
 impl Model for SummedPads {
-    ghost use Rattle.std.specs.Prelude.{◌≤◌, All};
-    ghost use Rattle.dc_keys.specs.Pads.{IsPadded};
-    ghost use Rattle.dc_keys.specs.StationPads.{StationPads, signed_sums};
+    ghost use Rattle.dc_keys.specs.StationPads.{StationPads, IsStationPads};
 
     ghost Value = { StationPads };
 
-    ghost view = { λ s. signed_sums s.plus s.minus s.words };
+    ghost view = { λ s. record { first = s.first; second = s.second } };
 
-    ghost invariant = { λ s. record { some : 1 ≤ s.words; most : s.words ≤ 4096; plus : All (IsPadded s.words) s.plus; minus : All (IsPadded s.words) s.minus } };
-}
-
-/// Whether a station adds the key of a pair or subtracts it.
-#[derive(Clone, Copy, Debug)]
-pub(crate) enum Side {
-    Plus,
-    Minus,
+    ghost invariant = { λ s. IsStationPads (record { first = s.first; second = s.second }) };
 }
 
 impl SummedPads {
-    /// The pads of station `me`. Pairs that it is no end of are passed over.
+    /// The pads of station `me`. Pairs without this station are passed over.
     pub fn of(alloc: Global, file: &KeyFile, me: u16) -> Result<SummedPads, NoMemory>
         ensures { IfOk result (λ s. s ≡ station_pads file.now me) }
     {
-        let plus = side_pairs(alloc, file.pairs.as_slice(), Side::Plus, me)?;
-        let minus = side_pairs(alloc, file.pairs.as_slice(), Side::Minus, me)?;
+        let count = 16 * usize::from(file.words);
+        let mut first = vec![in alloc; 0u32; count]?;
+        let mut second = vec![in alloc; 0u32; count]?;
+        sum_pairs(file.pairs.as_slice(), me, &mut first, &mut second);
         Ok(SummedPads {
-            words: file.words,
-            plus,
-            minus,
+            first: Syms::from_vec(first),
+            second: Syms::from_vec(second),
         })
     }
 
     /// For how many words there are pads, 1 to 4096.
     pub fn words(&self) -> u16
-        ensures value { result ≡ self.now.words }
+        ensures value { result ≡ pad_words self.now }
         ensures some { 1 ≤ result }
         ensures most { result ≤ 4096 }
     {
-        self.words
-    }
-
-    /// The key of the station for the word after a history: of its pairs, where the pads are those
-    /// of a key file, added as the smaller end and subtracted as the greater end.
-    pub fn key_word(&self, history: &[Word]) -> Word
-        requires { length history.now < self.now.words }
-        ensures summed { result ≡ station_key self.now history.now }
-        ensures pairs { (keys : Keys) (me : ℕ) → IsKeys keys → self.now ≡ station_pads keys me → result ≡ key_part keys.pairs me history.now }
-    {
-        let added = summed_key(self.plus.as_slice(), history);
-        let subtracted = summed_key(self.minus.as_slice(), history);
-        added.sub(&subtracted)
+        (self.first.as_slice().len() / 16) as u16
     }
 }
 
-/// The sum of the keys of some pairs for the word after a history.
-fn summed_key(pairs: &[PairKey], history: &[Word]) -> Word
-    requires pads { All (λ p. 16 * length history.now < length p.a) pairs.now }
-    requires history { length history.now < 4096 }
-    ensures { result ≡ key_sum pairs.now history.now }
+/// Adds the signed first and second pads of all pairs of station `me` to zeros.
+fn sum_pairs(pairs: &[PairKey], me: u16, first: &mut [u32], second: &mut [u32])
+    requires first_pads { All (λ p. length p.a ≡ length first.old) pairs.now }
+    requires second_pads { All (λ p. length p.b ≡ length second.old) pairs.now }
+    requires first_zeros { (n : ℕ) → slice_index first.old n ≡ 0 }
+    requires second_zeros { (n : ℕ) → slice_index second.old n ≡ 0 }
+    ensures first { (n : ℕ) → n < length first.old → slice_index first.new n ≡ signed_pad (λ p. p.a) pairs.now me n }
+    ensures second { (n : ℕ) → n < length second.old → slice_index second.new n ≡ signed_pad (λ p. p.b) pairs.now me n }
 {
-    let t = history.len() as u16;
-    let mut total = Word::zero();
     for pair in pairs {
-        total = total.add(&key_after(pair, history, t));
+        add_signed(first, pair.a.as_slice(), pair.u == me, pair.v == me);
+        add_signed(second, pair.b.as_slice(), pair.u == me, pair.v == me);
     }
-    total
 }
 
-/// Those pairs again whose key a station adds, or those whose key it subtracts.
-fn side_pairs(alloc: Global, pairs: &[PairKey], side: Side, me: u16) -> Result<Pairs, NoMemory>
-    ensures { IfOk result (λ ps. ps ≡ filter (is_side side me) pairs.now) }
+/// Adds pads to sums where `adds`, and subtracts them where `subtracts`.
+fn add_signed(sums: &mut [u32], pads: &[u32], adds: bool, subtracts: bool)
+    requires as_many { length pads.now ≡ length sums.old }
+    requires sums { (n : ℕ) → slice_index sums.old n < 65537 }
+    requires pads { (n : ℕ) → slice_index pads.now n < 65537 }
+    ensures value { (n : ℕ) → n < length sums.old → slice_index sums.new n ≡ (slice_index sums.old n + (if adds then slice_index pads.now n else 0) + (if subtracts then 65537 - slice_index pads.now n else 0)) % 65537 }
 {
-    let mut kept = Vec::new(alloc);
-    for pair in pairs {
-        if is_on(pair, side, me) {
-            kept.push(pair.try_clone(alloc)?)?;
-        }
+    if adds {
+        add_pads(sums, pads);
     }
-    Ok(Pairs::from_vec(kept))
+    if subtracts {
+        subtract_pads(sums, pads);
+    }
 }
 
-/// Whether a station adds the key of a pair, or whether it subtracts it.
-fn is_on(pair: &PairKey, side: Side, me: u16) -> bool
-    ensures { result ≡ is_side side me pair.now }
-{
-    match side {
-        Side::Plus => pair.u == me,
-        Side::Minus => pair.v == me,
-    }
-}
+/// The law of summed pads: they give the signed sum of the pairs' keys.
+pub fn summed_pads_law()
+    ensures { KeysOfSummedPads }
+{}
