@@ -4,7 +4,7 @@ use Rattle.std.specs.Option.{option_or}
 use Rattle.std.proofs.lemmas.List.{append-nil}
 use Rattle.std.proofs.lemmas.Bool.Decides.{nat_tests}
 use Rattle.dc_spec.specs.Groups.{Group, GroupFault, SplitFault, group_of, minus, uneven_limb}
-use Rattle.dc_station_rules.specs.Epochs.{Leaf, EpochFault, Tree, unsplit, alike, parts, Ranged, leaf_of, answered, judged_part, judged_split, judged_alike, put, with_left, with_right, current, come_out, split_at, mean_of, Epoch, unbegun, resolving, void_epoch, judged_root, grown_tree, with_word, with_words, epoch_of}
+use Rattle.dc_station_rules.specs.Epochs.{Leaf, EpochFault, Tree, unsplit, equal_values, parts, Ranged, leaf_of, split_by, split_by_group, split_or_fault, equal_or_fault, put, with_left, with_right, current, come_out, two_parts, mean_of, Epoch, unbegun, resolving, void_epoch, root_or_fault, grown_tree, with_word, with_words, epoch_of}
 use Rattle.dc_station_rules.proofs.Putting.{put-closed}
 use Rattle.dc_average.specs.Items.{Item, a_group, a_leaf, items_of, groups_in, single_leaf, from_open, leaves_in}
 
@@ -31,7 +31,7 @@ current-first (unsplit group low high) =
       | true ↦ refl
       | false ↦ refl
     ]
-current-first (alike leaf) = refl
+current-first (equal_values leaf) = refl
 current-first (parts left right) = rw (current-first left, current-first right, first-append (items_of left) (items_of right)) refl
 
 -- after items of which none is open
@@ -79,7 +79,7 @@ single_closed n leaf = grind (arith, nat_tests)
 pub come_out-leaves : (t : Tree) → come_out t ≡ leaves_in (items_of t)
 unfolding come_out
 come_out-leaves (unsplit group low high) = single_closed group.count (leaf_of group low high)
-come_out-leaves (alike leaf) = refl
+come_out-leaves (equal_values leaf) = refl
 come_out-leaves (parts left right) = rw (come_out-leaves left, come_out-leaves right, current-first left, leaves_in-append (items_of left) (items_of right)) refl
 
 -- a tree with what a word made of the group that stands between these items
@@ -94,7 +94,7 @@ pub record Cut (word : List ℕ) (t : Tree) (whole : Ranged) : Type 0 where
   pub is : items_of t ≡ before ++ a_group whole ∷ after
   pub closed : from_open before ≡ []
   pub two : ltb whole.group.count 2 ≡ false
-  pub grafted : Grafted (answered whole.group whole.low whole.high word) (put word t) before after
+  pub grafted : Grafted (split_by whole.group whole.low whole.high word) (put word t) before after
 
 -- an answer put at the group itself
 graft-here : (made : Result Tree EpochFault) → Grafted made (Some made) [] []
@@ -131,7 +131,7 @@ cut_here word group low high two = record {
   is = refl;
   closed = refl;
   two = two;
-  grafted = rw two (graft-here (answered group low high word));
+  grafted = rw two (graft-here (split_by group low high word));
 }
 
 -- none is not a group
@@ -151,7 +151,7 @@ cut_of word (unsplit group low high) whole is =
       | true ↦ λ e h. absurd (none_some whole h)
       | false ↦ λ e h. subst (λ (p : Ranged). Cut word (unsplit group low high) p) (same_some here whole h) (cut_here word group low high e)
     ] refl is
-cut_of word (alike leaf) whole is = absurd cc
+cut_of word (equal_values leaf) whole is = absurd cc
 cut_of word (parts left right) whole is =
     elim (current left) as (λ o. current left ≡ o → option_or o (current right) ≡ Some whole → Cut word (parts left right) whole) [
       | Some place ↦ λ e h.
@@ -162,7 +162,7 @@ cut_of word (parts left right) whole is =
             is = ap (λ zs. zs ++ items_of right) cut.is ∙ append_assoc cut.before (a_group whole ∷ cut.after) (items_of right);
             closed = cut.closed;
             two = cut.two;
-            grafted = graft-left (answered whole.group whole.low whole.high word) right (put word left) (option_map (with_right left) (put word right)) cut.before cut.after cut.grafted;
+            grafted = graft-left (split_by whole.group whole.low whole.high word) right (put word left) (option_map (with_right left) (put word right)) cut.before cut.after cut.grafted;
           }
       | None ↦ λ e h.
           let cut = cut_of word right whole h in
@@ -173,7 +173,7 @@ cut_of word (parts left right) whole is =
             is = ap (λ zs. items_of left ++ zs) cut.is ∙ sym (append_assoc (items_of left) cut.before (a_group whole ∷ cut.after));
             closed = from_open-after (items_of left) cut.before (closed_items left e) ∙ cut.closed;
             two = cut.two;
-            grafted = rw stays (graft-right (answered whole.group whole.low whole.high word) left (put word right) cut.before cut.after cut.grafted);
+            grafted = rw stays (graft-right (split_by whole.group whole.low whole.high word) left (put word right) cut.before cut.after cut.grafted);
           }
     ] refl is
 
@@ -217,12 +217,12 @@ after_closed (a_group place ∷ xs) ys closed =
 
 -- the answers that a group may get: its leaf, or two groups
 abbrev pub HasShape : Tree → Type 0
-HasShape (alike leaf) = Unit {0}
+HasShape (equal_values leaf) = Unit {0}
 HasShape (unsplit group low high) = ⊥
 HasShape (parts (unsplit group low high) (unsplit group' low' high')) = Unit {0}
-HasShape (parts (unsplit group low high) (alike leaf)) = ⊥
+HasShape (parts (unsplit group low high) (equal_values leaf)) = ⊥
 HasShape (parts (unsplit group low high) (parts left right)) = ⊥
-HasShape (parts (alike leaf) right) = ⊥
+HasShape (parts (equal_values leaf) right) = ⊥
 HasShape (parts (parts left' right') right) = ⊥
 
 abbrev pub OkShape : Result Tree EpochFault → Type 0
@@ -230,37 +230,37 @@ OkShape (Err fault) = Unit {0}
 OkShape (Ok tree) = HasShape tree
 
 -- a group whose stations all sent again gives its leaf
-alike-shape : (group : Group) (low high : ℕ) (place : Option ℕ) → OkShape (judged_alike group low high place)
+alike-shape : (group : Group) (low high : ℕ) (place : Option ℕ) → OkShape (equal_or_fault group low high place)
 alike-shape group low high None = tt
 alike-shape group low high (Some i) = tt
 
 -- a group of which a part was judged gives its leaf or two groups
-split-shape : (whole part : Group) (low high : ℕ) (rest : Result Group SplitFault) → OkShape (judged_split whole low high part rest)
+split-shape : (whole part : Group) (low high : ℕ) (rest : Result Group SplitFault) → OkShape (split_or_fault whole low high part rest)
 split-shape whole part low high (Err fault) = tt
 split-shape whole part low high (Ok rest) =
-    elim (eqb part.count whole.count) as (λ b. OkShape (cond b (judged_alike whole low high (uneven_limb whole)) (Ok (split_at (mean_of whole) low high part rest)))) [
+    elim (eqb part.count whole.count) as (λ b. OkShape (cond b (equal_or_fault whole low high (uneven_limb whole)) (Ok (two_parts (mean_of whole) low high part rest)))) [
       | true ↦ alike-shape whole low high (uneven_limb whole)
       | false ↦ tt
     ]
 
 -- a group whose word was judged gives its leaf or two groups
-part-shape : (whole : Group) (low high : ℕ) (part : Result Group GroupFault) → OkShape (judged_part whole low high part)
+part-shape : (whole : Group) (low high : ℕ) (part : Result Group GroupFault) → OkShape (split_by_group whole low high part)
 part-shape whole low high (Err fault) = tt
 part-shape whole low high (Ok part) = split-shape whole part low high (minus whole part)
 
 -- a word makes of a group its leaf or two groups
-pub answered-shape : (whole : Group) (low high : ℕ) (word : List ℕ) → OkShape (answered whole low high word)
-unfolding answered
+pub answered-shape : (whole : Group) (low high : ℕ) (word : List ℕ) → OkShape (split_by whole low high word)
+unfolding split_by
 answered-shape whole low high word = part-shape whole low high (group_of word)
 
 -- after an answer and groups alone, the items after the first open one are groups
 pub shape_after : (tree : Tree) (items : List Item) → HasShape tree → AreGroups items → AreGroups (after_open (items_of tree ++ items))
-shape_after (alike leaf) items shape are = after_groups items are
+shape_after (equal_values leaf) items shape are = after_groups items are
 shape_after (unsplit group low high) items shape are = absurd shape
 shape_after (parts (unsplit group low high) (unsplit group' low' high')) items shape are = after_groups (a_group (record { group = group; low = low; high = high }) ∷ a_group (record { group = group'; low = low'; high = high' }) ∷ items) are
-shape_after (parts (unsplit group low high) (alike leaf)) items shape are = absurd shape
+shape_after (parts (unsplit group low high) (equal_values leaf)) items shape are = absurd shape
 shape_after (parts (unsplit group low high) (parts left right)) items shape are = absurd shape
-shape_after (parts (alike leaf) right) items shape are = absurd shape
+shape_after (parts (equal_values leaf) right) items shape are = absurd shape
 shape_after (parts (parts left' right') right) items shape are = absurd shape
 
 -- what stands after the first open group of a cut tree
@@ -286,7 +286,7 @@ pub cut_groups : (word : List ℕ) (t : Tree) (whole : Ranged) (cut : Cut word t
 cut_groups word t whole cut ordered = subst (λ (zs : List Item). AreGroups zs) (cut_after word t whole cut) ordered
 
 -- the tree of a root is ordered
-root-ordered : (root : Result Group GroupFault) → IsOrdered (judged_root root)
+root-ordered : (root : Result Group GroupFault) → IsOrdered (root_or_fault root)
 root-ordered (Err fault) = tt
 root-ordered (Ok group) = elim (ltb group.count 2) as (λ b. AreGroups (cond b [] [])) [
   | true ↦ tt
@@ -308,7 +308,7 @@ ordered_step (resolving t) word ordered =
       | None ↦ λ e. rw (put-closed word t e) ordered
       | Some whole ↦ λ e.
           let cut = cut_of word t whole e in
-          grafted-ordered t (answered whole.group whole.low whole.high word) (put word t) cut.before cut.after (answered-shape whole.group whole.low whole.high word) (cut_groups word t whole cut ordered) cut.closed cut.grafted
+          grafted-ordered t (split_by whole.group whole.low whole.high word) (put word t) cut.before cut.after (answered-shape whole.group whole.low whole.high word) (cut_groups word t whole cut ordered) cut.closed cut.grafted
     ] refl
 
 -- more words keep the order

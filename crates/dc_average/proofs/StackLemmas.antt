@@ -5,7 +5,7 @@ use Rattle.std.specs.List.{range_with_len, find}
 use Rattle.std.proofs.Math.Nat.{mod-one}
 use Rattle.std.proofs.lemmas.Bool.{cases_lt, le-ltb}
 use Rattle.std.proofs.lemmas.Bool.Decides.{nat_tests}
-use Rattle.dc_spec.specs.Groups.{first_place, Group, limb, uneven_limb}
+use Rattle.dc_spec.specs.Groups.{first_limb_where, Group, limb, uneven_limb}
 use Rattle.dc_station_rules.specs.Epochs.{Ranged, leaf_of}
 use Rattle.dc_average.specs.Stacks.{AreOfSome, IsStack, stations_of, stations_in}
 use Rattle.dc_average.specs.Items.{a_group, from_open, leaves_in, groups_in}
@@ -116,7 +116,7 @@ even_by_one x n one = rw one (rw (mod-one x) refl)
 
 -- a group of one station has no uneven limb
 pub uneven_limb-single : (group : Group) → group.count ≡ 1 → uneven_limb group ≡ None
-unfolding first_place
+unfolding first_limb_where
 uneven_limb-single group one = find-none (λ i. not (eqb (limb group i % group.count) 0)) (range_with_len 0 15) (λ i. even_by_one (limb group i) group.count one)
 
 -- the top is of one station or more

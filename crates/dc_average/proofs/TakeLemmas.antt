@@ -3,7 +3,7 @@ use Rattle.std.proofs.Common.{◌≡◌, ℕ, ◌&&◌, Bool, true, false, List,
 use Rattle.std.proofs.Math.Seq.{drop-append_seam, drop-length}
 use Rattle.dc_spec.specs.Groups.{Group, GroupFault, group_of}
 use Rattle.dc_spec.specs.Values.{last_number, number_of}
-use Rattle.dc_station_rules.specs.Epochs.{Leaf, EpochFault, Tree, unsplit, Ranged, answered, put, current, come_out, Epoch, unbegun, resolving, void_epoch, judged_root, grown_tree, with_word, epoch_of, leaves, leaves_at, asked, asked_of, is_called, calls, is_over}
+use Rattle.dc_station_rules.specs.Epochs.{Leaf, EpochFault, Tree, unsplit, Ranged, split_by, put, current, come_out, Epoch, unbegun, resolving, void_epoch, root_or_fault, grown_tree, with_word, epoch_of, leaves, leaves_at, request_after, request_for, is_called, calls, is_over}
 use Rattle.dc_average.specs.declared.ask.Step.{Step}
 use Rattle.dc_average.specs.Items.{Item, a_group, items_of, groups_in, from_open, leaves_in}
 use Rattle.dc_average.specs.StandsFor.{State, is_empty, is_done, state_of, StandsFor}
@@ -53,9 +53,9 @@ pub current_kept : (t : Tree) (whole : Ranged) (rest : List Ranged) → whole �
 current_kept t whole rest kept = current-first t ∙ ap first (sym kept)
 
 -- what an epoch asks for, by its first group that waits
-pub asked_kept : (epoch : Epoch) (whole : Ranged) (rest : List Ranged) → record { begun = true; waiting = whole ∷ rest } ≡ state_of epoch → asked epoch ≡ asked_of (Some whole)
+pub asked_kept : (epoch : Epoch) (whole : Ranged) (rest : List Ranged) → record { begun = true; waiting = whole ∷ rest } ≡ state_of epoch → request_after epoch ≡ request_for (Some whole)
 asked_kept unbegun whole rest kept = absurd (root_apart (whole ∷ rest) [] kept)
-asked_kept (resolving t) whole rest kept = ap asked_of (current_kept t whole rest (ap (λ (s : State). s.waiting) kept))
+asked_kept (resolving t) whole rest kept = ap request_for (current_kept t whole rest (ap (λ (s : State). s.waiting) kept))
 asked_kept (void_epoch out fault) whole rest kept = absurd (none_apart whole rest kept)
 
 -- whom an epoch calls, by its first group that waits
@@ -76,7 +76,7 @@ leads_by [] t kept = (t, (refl, ap is_none (current-first t ∙ ap first (sym ke
 leads_by (place ∷ rest) t kept = ap is_none (current-first t ∙ ap first (sym kept))
 
 -- a root leaves what is kept of the epoch with it
-root_by : (root : Result Group GroupFault) (stack : List Ranged) (out : List Leaf) (step : Step) → LeftBy (root_tree root) [] stack out step → Taken unbegun (judged_root root) stack out step
+root_by : (root : Result Group GroupFault) (stack : List Ranged) (out : List Leaf) (step : Step) → LeftBy (root_tree root) [] stack out step → Taken unbegun (root_or_fault root) stack out step
 root_by (Err fault) stack out step left = record {
   kept = rw left.1.2 refl;
   leads = rw left.1.0 ([], rw (sym left.1.1) refl);
@@ -110,7 +110,7 @@ same_rest : (x y : Ranged) (xs ys : List Ranged) → x ∷ xs ≡ y ∷ ys → x
 same_rest x y xs ys e = cc
 
 -- a word for the current group leaves what is kept of the epoch with it
-resolved_by : (epoch : Epoch) (word : List ℕ) (whole : Ranged) (rest stack : List Ranged) (out : List Leaf) (step : Step) → IsOrdered epoch → record { begun = true; waiting = whole ∷ rest } ≡ state_of epoch → LeftBy (answered whole.group whole.low whole.high word) rest stack out step → Taken epoch (with_word epoch word) stack out step
+resolved_by : (epoch : Epoch) (word : List ℕ) (whole : Ranged) (rest stack : List Ranged) (out : List Leaf) (step : Step) → IsOrdered epoch → record { begun = true; waiting = whole ∷ rest } ≡ state_of epoch → LeftBy (split_by whole.group whole.low whole.high word) rest stack out step → Taken epoch (with_word epoch word) stack out step
 resolved_by unbegun word whole rest stack out step ordered kept left = absurd (root_apart (whole ∷ rest) [] kept)
 resolved_by (void_epoch before fault) word whole rest stack out step ordered kept left = absurd (none_apart whole rest kept)
 resolved_by (resolving t) word whole rest stack out step ordered kept left =
@@ -118,8 +118,8 @@ resolved_by (resolving t) word whole rest stack out step ordered kept left =
     let cut = cut_of word t whole (current_kept t whole rest waits) in
     let same : rest ≡ groups_in cut.after = same_rest whole whole rest (groups_in cut.after) (waits ∙ cut_from_open word t whole cut) in
     let after : cut.after ≡ map a_group rest = groups_are cut.after (cut_groups word t whole cut ordered) ∙ ap (map a_group) (sym same) in
-    let graft = subst (λ (zs : List Item). Grafted (answered whole.group whole.low whole.high word) (put word t) cut.before zs) after cut.grafted in
-    grown_by t (answered whole.group whole.low whole.high word) (put word t) cut.before rest stack out step cut.closed (cut_come_out word t whole cut) graft left
+    let graft = subst (λ (zs : List Item). Grafted (split_by whole.group whole.low whole.high word) (put word t) cut.before zs) after cut.grafted in
+    grown_by t (split_by whole.group whole.low whole.high word) (put word t) cut.before rest stack out step cut.closed (cut_come_out word t whole cut) graft left
 
 -- what holds of the epoch with one more word
 pub record WithWord (words : List (List ℕ)) (word : List ℕ) (stack : List Ranged) (out : List Leaf) (step : Step) : Type 0 where
@@ -144,7 +144,7 @@ with_root words word waiting stack out step stands left =
     with_word_by words word stack out step (subst (λ (epoch : Epoch). Taken epoch (with_word epoch word) stack out step) (sym none) (root_by (group_of word) stack out step left))
 
 -- a word for the current group after other words
-pub with_answer : (words : List (List ℕ)) (word : List ℕ) (whole : Ranged) (rest stack : List Ranged) (out : List Leaf) (step : Step) → StandsFor (record { begun = true; waiting = whole ∷ rest }) words → LeftBy (answered whole.group whole.low whole.high word) rest stack out step → WithWord words word stack out step
+pub with_answer : (words : List (List ℕ)) (word : List ℕ) (whole : Ranged) (rest stack : List Ranged) (out : List Leaf) (step : Step) → StandsFor (record { begun = true; waiting = whole ∷ rest }) words → LeftBy (split_by whole.group whole.low whole.high word) rest stack out step → WithWord words word stack out step
 with_answer words word whole rest stack out step stands left =
     with_word_by words word stack out step (resolved_by (epoch_of words) word whole rest stack out step (epoch_of-ordered words) stands.kept left)
 
@@ -156,7 +156,7 @@ no_next state begun is started unfinished =
     cc
 
 -- a word for the current group of a state that takes one
-pub with_next : (state : State) (words : List (List ℕ)) (word : List ℕ) (begun : Bool) (waiting stack : List Ranged) (out : List Leaf) (step : Step) → record { begun = begun; waiting = waiting } ≡ state → begun ≡ true → is_done state ≡ false → StandsFor state words → ((whole : Ranged) (rest : List Ranged) → waiting ≡ whole ∷ rest → LeftBy (answered whole.group whole.low whole.high word) rest stack out step) → WithWord words word stack out step
+pub with_next : (state : State) (words : List (List ℕ)) (word : List ℕ) (begun : Bool) (waiting stack : List Ranged) (out : List Leaf) (step : Step) → record { begun = begun; waiting = waiting } ≡ state → begun ≡ true → is_done state ≡ false → StandsFor state words → ((whole : Ranged) (rest : List Ranged) → waiting ≡ whole ∷ rest → LeftBy (split_by whole.group whole.low whole.high word) rest stack out step) → WithWord words word stack out step
 with_next state words word begun [] stack out step is started unfinished stands left = absurd (no_next state begun is started unfinished)
 with_next state words word begun (whole ∷ rest) stack out step is started unfinished stands left =
     let same : ◌≡◌ {A = State} state (record { begun = true; waiting = whole ∷ rest }) = sym is ∙ ap (λ (b : Bool). record { begun = b; waiting = whole ∷ rest }) started in
@@ -169,11 +169,11 @@ with_first state words word begun waiting stack out step is started stands left 
     with_root words word waiting stack out step (subst (λ (s : State). StandsFor s words) same stands) left
 
 -- what a state that takes a word for a group asks for, and whom it calls
-pub asked_by : (state : State) (words : List (List ℕ)) (begun : Bool) (waiting : List Ranged) (top : Ranged) → record { begun = begun; waiting = waiting } ≡ state → begun ≡ true → slice_get waiting 0 ≡ Some top → StandsFor state words → asked (epoch_of words) ≡ asked_of (Some top)
+pub asked_by : (state : State) (words : List (List ℕ)) (begun : Bool) (waiting : List Ranged) (top : Ranged) → record { begun = begun; waiting = waiting } ≡ state → begun ≡ true → slice_get waiting 0 ≡ Some top → StandsFor state words → request_after (epoch_of words) ≡ request_for (Some top)
 asked_by state words begun [] top is started here stands = absurd cc
 asked_by state words begun (whole ∷ rest) top is started here stands =
     let same : whole ≡ top = cc in
-    asked_kept (epoch_of words) whole rest ((sym (ap (λ (b : Bool). record { begun = b; waiting = whole ∷ rest }) started) ∙ is) ∙ stands.kept) ∙ ap (λ (p : Ranged). asked_of (Some p)) same
+    asked_kept (epoch_of words) whole rest ((sym (ap (λ (b : Bool). record { begun = b; waiting = whole ∷ rest }) started) ∙ is) ∙ stands.kept) ∙ ap (λ (p : Ranged). request_for (Some p)) same
 
 -- whom a state calls that takes a word for a group
 pub called_by : (state : State) (words : List (List ℕ)) (value : List ℕ) (begun : Bool) (waiting : List Ranged) (top : Ranged) → record { begun = begun; waiting = waiting } ≡ state → begun ≡ true → slice_get waiting 0 ≡ Some top → StandsFor state words → calls value (epoch_of words) ≡ is_called (number_of value) (Some top)

@@ -2,7 +2,7 @@
 use Rattle.std.specs.Prelude.{◌≡◌, ℕ, ◌+◌, ◌≤◌, Bool, true, false, List, [], ◌∷◌, ◌++◌, map, Result, Ok, Err}
 use Rattle.dc_spec.specs.Groups.{Group, GroupFault}
 use Rattle.dc_spec.specs.Values.{last_number}
-use Rattle.dc_station_rules.specs.Epochs.{Leaf, EpochFault, no_group, no_part, uneven, Tree, unsplit, alike, parts, Ranged, Epoch, resolving, void_epoch, Asked, for_root, for_at_most, for_nothing, is_over}
+use Rattle.dc_station_rules.specs.Epochs.{Leaf, EpochFault, no_group, no_part, uneven, Tree, unsplit, equal_values, parts, Ranged, Epoch, resolving, void_epoch, Request, for_root, for_at_most, for_nothing, is_over}
 use Rattle.dc_field.specs.GroupAnswers.{group_fault, split_fault}
 use Rattle.dc_average.specs.declared.ask.Ask.{Ask}
 use Rattle.dc_average.specs.declared.ask.Ask.TheVariants.{Root, AtMost, Over}
@@ -15,7 +15,7 @@ use Rattle.dc_average.specs.declared.answer.Answer.TheVariants.{Alike, Split}
 use Rattle.dc_average.specs.Items.{a_group, items_of, from_open, leaves_in}
 
 -- what is asked for
-abbrev pub asked_of : Ask → Asked
+abbrev pub asked_of : Ask → Request
 asked_of Root = for_root
 asked_of (AtMost mean) = for_at_most mean
 asked_of Over = for_nothing
@@ -40,11 +40,11 @@ StepLeadsTo (Void why) epoch = (out : List Leaf) × (epoch ≡ void_epoch out (e
 
 -- what a word made of the current group
 abbrev pub leaf_result_of : Result Leaf BadWord → Result Tree EpochFault
-leaf_result_of (Ok leaf) = Ok (alike leaf)
+leaf_result_of (Ok leaf) = Ok (equal_values leaf)
 leaf_result_of (Err why) = Err (epoch_fault_of why)
 
 abbrev pub answer_result_of : Result Answer BadWord → Result Tree EpochFault
-answer_result_of (Ok (Alike leaf)) = Ok (alike leaf)
+answer_result_of (Ok (Alike leaf)) = Ok (equal_values leaf)
 answer_result_of (Ok (Split left right)) = Ok (parts (unsplit left.group left.low left.high) (unsplit right.group right.low right.high))
 answer_result_of (Err why) = Err (epoch_fault_of why)
 

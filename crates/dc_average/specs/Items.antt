@@ -1,6 +1,6 @@
 -- What stands in the tree of an epoch, from left to right.
 use Rattle.std.specs.Prelude.{List, [], ◌∷◌, ◌++◌, nat_lt, ◌==◌, if◌then◌else◌}
-use Rattle.dc_station_rules.specs.Epochs.{Leaf, Tree, unsplit, alike, parts, Ranged, leaf_of}
+use Rattle.dc_station_rules.specs.Epochs.{Leaf, Tree, unsplit, equal_values, parts, Ranged, leaf_of}
 
 -- a group that is not split, or the leaf of one whose own word showed that all its values are equal
 pub data Item : Type 0 where
@@ -10,7 +10,7 @@ pub data Item : Type 0 where
 -- the items of a tree in order
 abbrev pub items_of : Tree → List Item
 items_of (unsplit group low high) = a_group (record { group = group; low = low; high = high }) ∷ []
-items_of (alike leaf) = a_leaf leaf ∷ []
+items_of (equal_values leaf) = a_leaf leaf ∷ []
 items_of (parts left right) = items_of left ++ items_of right
 
 -- the groups among items

@@ -2,7 +2,7 @@
 
 ghost use Rattle.std.specs.Prelude.{◌≡◌, ℕ, ◌+◌, ◌<◌, ◌≤◌, false, List, [], ◌∷◌, ◌++◌, IfNone, IfOk, IfSome, length, map, slice_get};
 ghost use Rattle.dc_spec.specs.Groups.{group_of};
-ghost use Rattle.dc_station_rules.specs.Epochs.{Ranged, answered, asked, calls, epoch_of, leaves_at};
+ghost use Rattle.dc_station_rules.specs.Epochs.{Ranged, split_by, request_after, calls, epoch_of, leaves_at};
 ghost use Rattle.dc_average.specs.Stacks.{IsStack, stations_of, stations_in};
 ghost use Rattle.dc_average.specs.Items.{a_group, from_open, leaves_in};
 ghost use Rattle.dc_average.specs.StandsFor.{StandsFor, is_done};
@@ -60,7 +60,7 @@ impl Epoch {
     /// What the next word is asked for.
     pub fn ask(&self) -> Ask
         ensures ask { (words : List (List ℕ)) → StandsFor self.now words →
-            asked_of result ≡ asked (epoch_of words) }
+            asked_of result ≡ request_after (epoch_of words) }
         ensures over { is_nothing result ≡ is_done self.now }
     {
         if !self.begun {
@@ -135,7 +135,7 @@ fn resolve(stack: &mut Stack, w: &Word, out: &mut Leaves) -> Step
     requires stack { 1 ≤ length stack.old }
     requires out { out.old ≡ [] }
     ensures { (whole : Ranged) (rest : List Ranged) → stack.old ≡ whole ∷ rest →
-        LeftBy (answered whole.group whole.low whole.high w.now) rest stack.new out.new result }
+        LeftBy (split_by whole.group whole.low whole.high w.now) rest stack.new out.new result }
 {
     let whole = stack.pop().unwrap();
     match answer_to(&whole, w) {

@@ -2,7 +2,7 @@
 
 ghost use Rattle.std.specs.Prelude.{◌≡◌, ◌+◌, ◌-◌, ◌*◌, ◌/◌, ◌%◌, ◌^◌, ◌<◌, ◌≤◌, ◌==◌, ◌||◌, ℕ, IfOk, IfSome, OnOk, length, map, nat_lt, not, slice_index};
 ghost use Rattle.std.specs.List.{range_with_len};
-ghost use Rattle.dc_spec.specs.Groups.{Group as group_record, divided, equal_value, first_place, group_of, limb, mean, minus, total};
+ghost use Rattle.dc_spec.specs.Groups.{Group as group_record, divided, equal_value, first_limb_where, group_of, limb, mean, minus, total};
 ghost use Rattle.dc_spec.specs.Values.{number_of};
 ghost use Rattle.dc_field.specs.GroupAnswers.{told_group, told_rest};
 ghost use Rattle.dc_field.specs.IsGroup.{IsGroup};
@@ -166,19 +166,19 @@ fn number_from(limbs: &[u16; 15]) -> u128
 }
 
 /// The place of the first limb above a bound.
-#[tactic(auto, unfolding(dc_spec::specs::Groups::first_place))]
+#[tactic(auto, unfolding(dc_spec::specs::Groups::first_limb_where))]
 fn first_high(limbs: &[u32], bound: u32) -> Option<usize>
     requires { length limbs.now ≡ 15 }
-    ensures place { result ≡ first_place (λ i. nat_lt bound (slice_index limbs.now i)) }
+    ensures place { result ≡ first_limb_where (λ i. nat_lt bound (slice_index limbs.now i)) }
     ensures found { IfSome result (λ i. i < 15) }
 {
     (0..15).find(|i| bound < limbs[*i])
 }
 
 /// The place of the first limb that a part has more of than the whole, or that leaves more than a bound.
-#[tactic(auto, unfolding(dc_spec::specs::Groups::first_place))]
+#[tactic(auto, unfolding(dc_spec::specs::Groups::first_limb_where))]
 fn first_unfit(whole: &[u16; 15], part: &[u16; 15], bound: u16) -> Option<usize>
-    ensures place { result ≡ first_place (λ i. nat_lt (slice_index whole.now i) (slice_index part.now i)
+    ensures place { result ≡ first_limb_where (λ i. nat_lt (slice_index whole.now i) (slice_index part.now i)
         || nat_lt bound (slice_index whole.now i - slice_index part.now i)) }
     ensures found { IfSome result (λ i. i < 15) }
 {
@@ -186,10 +186,10 @@ fn first_unfit(whole: &[u16; 15], part: &[u16; 15], bound: u16) -> Option<usize>
 }
 
 /// The place of the first limb that a count does not divide.
-#[tactic(auto, unfolding(dc_spec::specs::Groups::first_place))]
+#[tactic(auto, unfolding(dc_spec::specs::Groups::first_limb_where))]
 fn first_uneven(limbs: &[u16; 15], count: u16) -> Option<usize>
     requires { 0 < count }
-    ensures { result ≡ first_place (λ i. not (slice_index limbs.now i % count == 0)) }
+    ensures { result ≡ first_limb_where (λ i. not (slice_index limbs.now i % count == 0)) }
 {
     (0..15).find(|i| limbs[*i] % count != 0)
 }

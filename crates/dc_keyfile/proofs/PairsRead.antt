@@ -10,7 +10,7 @@ use Rattle.std.proofs.lemmas.List.FromFn.{get_or-map-range_with_len, length-map-
 use Rattle.dc_spec.specs.Words.{IsSymbol}
 use Rattle.dc_spec.specs.Bytes.{short_at}
 use Rattle.dc_spec.specs.Pads.{Pair}
-use Rattle.dc_formats.specs.KeyFile.{IsPair, IsBefore, IsKeys}
+use Rattle.dc_formats.specs.KeyFile.{IsPair, IsPairBefore, IsKeys}
 use Rattle.dc_keys.specs.Pads.{IsPairKey}
 use Rattle.dc_field.specs.declared.refusal.Refusal.{Refusal}
 use Rattle.dc_field.specs.declared.refusal.Refusal.TheVariants.{NoMemory, Bad}
@@ -172,7 +172,7 @@ IsPair-from_read bytes stations words p pair is =
 is_before_well : (a b c d : ℕ) → (ltb a c || (eqb a c && ltb b d)) ≡ true → (a ≤ c) × (a ≡ c → b < d)
 is_before_well a b c d given = grind (arith, nat_tests)
 
-IsBefore-from_read : (bytes : List ℕ) (stations words p : ℕ) (one next : Pair) → IsRead bytes stations words p one → IsRead bytes stations words (p + 1) next → IsBefore one next
+IsBefore-from_read : (bytes : List ℕ) (stations words p : ℕ) (one next : Pair) → IsRead bytes stations words p one → IsRead bytes stations words (p + 1) next → IsPairBefore one next
 IsBefore-from_read bytes stations words p one next is is' =
     let not_first : eqb (p + 1) 0 ≡ false = ne_eqb (p + 1) 0 (λ e. omega arith) in
     let before : p + 1 - 1 ≡ p = omega arith in

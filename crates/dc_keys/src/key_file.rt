@@ -1,7 +1,7 @@
 //! Key files: the pads of all pairs of a session.
 
 ghost use Rattle.std.specs.Prelude.{◌≡◌, ◌↔◌, IsTrue, IfOk, SomeIff};
-ghost use Rattle.dc_formats.specs.KeyFile.{IsKeys, IsPair, IsBefore};
+ghost use Rattle.dc_formats.specs.KeyFile.{IsKeys, IsPair, IsPairBefore};
 
 use crate::pair_key::{PairKey, Pairs};
 use dc_field::NoMemory;
@@ -96,7 +96,7 @@ fn is_pair(stations: u16, words: u16, pair: &PairKey) -> bool
 
 /// Whether a pair comes before another by its ends.
 fn is_before(p: &PairKey, q: &PairKey) -> bool
-    ensures { IsTrue result ↔ IsBefore p.now q.now }
+    ensures { IsTrue result ↔ IsPairBefore p.now q.now }
 {
     p.u < q.u || (p.u == q.u && p.v < q.v)
 }

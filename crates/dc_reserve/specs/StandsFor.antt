@@ -1,7 +1,7 @@
 -- A burst as the code keeps it, against the words that were received since its restart.
 use Rattle.std.specs.Prelude.{◌≡◌, ℕ, ◌+◌, ◌-◌, ◌≤◌, List, [], length, take, drop}
 use Rattle.dc_spec.specs.Values.{word_count}
-use Rattle.dc_station_rules.specs.Bursts.{word_at, carried, Burst, goes_on, gave, void_burst, burst_of}
+use Rattle.dc_station_rules.specs.Bursts.{nth_word, carried, Burst, goes_on, gave, void_burst, burst_of}
 use Rattle.dc_reserve.specs.declared.judge.BurstStep.{BurstStep}
 use Rattle.dc_reserve.specs.declared.judge.BurstStep.TheVariants.{Goes, Message, Void}
 use Rattle.dc_reserve.specs.declared.judge.Phase.{Phase}
@@ -16,7 +16,7 @@ pub record State : Type 0 where
 -- what is kept goes with what the words are as a burst
 abbrev pub IsKeptOf : Phase → List ℕ → List (List ℕ) → Burst → Type 0
 IsKeptOf First bytes words goes_on = (words ≡ []) × (bytes ≡ [])
-IsKeptOf (Later left) bytes words goes_on = (1 ≤ length words) × (word_count (word_at words (length words - 1)) ≡ left + 1) × (bytes ≡ carried words)
+IsKeptOf (Later left) bytes words goes_on = (1 ≤ length words) × (word_count (nth_word words (length words - 1)) ≡ left + 1) × (bytes ≡ carried words)
 IsKeptOf (Whole size) bytes words (gave message) = (message ≡ take size (drop 2 bytes)) × (length message ≡ size)
 IsKeptOf Broken bytes words (void_burst fault) = Unit {0}
 IsKeptOf phase bytes words burst = ⊥
