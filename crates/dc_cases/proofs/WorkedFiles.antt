@@ -289,8 +289,12 @@ unfolding trial_text word_of digits
 trial_summary = refl
 
 -- rounds with a zero word have no line
-shifts_of_two_edges : shifts_text (record { u = 0; v = 1; words = zero_word ∷ two_ends 0 65533 ∷ two_ends 1 5 ∷ zero_word ∷ [] } ∷ record { u = 1; v = 2; words = zero_word ∷ two_ends 0 65533
-    ∷ two_ends 1 5 ∷ zero_word ∷ [] } ∷ []) ≡ text_file (codes "shift 0 1 1 0000000000000000000000000000000000000000000000000000000000000000000000000000fffd"
+shifts_of_two_edges : shifts_text (record { u = 0; v = 1; words = zero_word ∷ two_ends 0 65533 ∷ two_ends 1 5 ∷ zero_word ∷ [] } ∷ record {
+  u = 1;
+  v = 2;
+  words = zero_word ∷ two_ends 0 65533
+      ∷ two_ends 1 5 ∷ zero_word ∷ [];
+} ∷ []) ≡ text_file (codes "shift 0 1 1 0000000000000000000000000000000000000000000000000000000000000000000000000000fffd"
     ∷ codes "shift 0 1 2 00001000000000000000000000000000000000000000000000000000000000000000000000000005"
     ∷ codes "shift 1 2 1 0000000000000000000000000000000000000000000000000000000000000000000000000000fffd"
     ∷ codes "shift 1 2 2 00001000000000000000000000000000000000000000000000000000000000000000000000000005" ∷ [])

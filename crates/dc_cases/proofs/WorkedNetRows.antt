@@ -55,8 +55,12 @@ unfolding computing rounds_of
 sums_of_ring = refl
 
 -- exchanging the streams shifts both edges of the path in the two rounds where the plain words differ
-shifts_of_ring : shifts ring exchange ≡ record { u = 0; v = 1; words = zero_word ∷ two_ends 0 65533 ∷ two_ends 1 5 ∷ zero_word ∷ [] } ∷ record { u = 1; v = 2; words = zero_word ∷ two_ends 0 65533
-    ∷ two_ends 1 5 ∷ zero_word ∷ [] } ∷ []
+shifts_of_ring : shifts ring exchange ≡ record { u = 0; v = 1; words = zero_word ∷ two_ends 0 65533 ∷ two_ends 1 5 ∷ zero_word ∷ [] } ∷ record {
+  u = 1;
+  v = 2;
+  words = zero_word ∷ two_ends 0 65533
+      ∷ two_ends 1 5 ∷ zero_word ∷ [];
+} ∷ []
 unfolding computing rounds_of reached spreads chain
 shifts_of_ring = refl
 
@@ -91,8 +95,13 @@ unfolding reached
 not_joined_past_coalition = refl
 
 -- the changes that turn the second sum into the word with 7 and 9
-steering_of_split_pair : steering_of split_pair 0 1 (two_ends 7 9 ∷ []) ≡ record { round = 0; symbol = 15; first = slice_set (slice_set (replicate 32 0) 16 14) 31 18; second =
-    slice_set (slice_set (replicate 32 0) 1 65530) 16 65528 }
+steering_of_split_pair : steering_of split_pair 0 1 (two_ends 7 9 ∷ []) ≡ record {
+  round = 0;
+  symbol = 15;
+  first = slice_set (slice_set (replicate 32 0) 16 14) 31 18;
+  second =
+      slice_set (slice_set (replicate 32 0) 1 65530) 16 65528;
+}
 unfolding computing rounds_of power_below changes_up_to
 steering_of_split_pair = refl
 
@@ -146,8 +155,13 @@ abbrev hidden_mark : Net
 hidden_mark = triangle (of_message 1 ∷ of_message 2 ∷ None ∷ []) (said 2 (word_of (λ l. if l == 5 then 65536 else 0)) ∷ said 2 zero_word ∷ said 2 zero_word ∷ said 2 zero_word ∷ []) 4
 
 -- so both messages collide in one burst, which is void, and nothing is sent
-run_of_hidden_mark : outcome (run_of hidden_mark) ≡ (word_of (λ l. if l == 5 then 1 else 0) ∷ (2 ∷ 0 ∷ 2 ∷ 3 ∷ replicate 12 0) ∷ zero_word ∷ zero_word ∷ [], [] ∷ [] ∷ [], [] ∷ [] ∷ [], (0, 1)
-    ∷ (0, 1) ∷ [])
+run_of_hidden_mark : outcome (run_of hidden_mark) ≡ (
+  word_of (λ l. if l == 5 then 1 else 0) ∷ (2 ∷ 0 ∷ 2 ∷ 3 ∷ replicate 12 0) ∷ zero_word ∷ zero_word ∷ [],
+  [] ∷ [] ∷ [],
+  [] ∷ [] ∷ [],
+  (0, 1)
+      ∷ (0, 1) ∷ [],
+)
 unfolding computing rounds_of
 run_of_hidden_mark = refl
 
@@ -156,8 +170,13 @@ abbrev disturbed_split : List ℕ → Net
 disturbed_split w = triangle (of_values (1 ∷ []) ∷ of_values (3 ∷ []) ∷ None ∷ []) (said 2 zero_word ∷ said 2 zero_word ∷ said 2 w ∷ said 2 zero_word ∷ said 2 zero_word ∷ []) 5
 
 -- a left part of count 0 makes the epoch void, and the next cycle begins
-run_of_empty_split : outcome (run_of (disturbed_split (two_ends 65536 65536))) ≡ (zero_word ∷ two_ends 2 4 ∷ zero_word ∷ zero_word ∷ two_ends 2 4 ∷ [], [] ∷ [] ∷ [], [] ∷ [] ∷ [], (1, 0) ∷ (1, 0)
-    ∷ [])
+run_of_empty_split : outcome (run_of (disturbed_split (two_ends 65536 65536))) ≡ (
+  zero_word ∷ two_ends 2 4 ∷ zero_word ∷ zero_word ∷ two_ends 2 4 ∷ [],
+  [] ∷ [] ∷ [],
+  [] ∷ [] ∷ [],
+  (1, 0) ∷ (1, 0)
+      ∷ [],
+)
 unfolding computing rounds_of
 run_of_empty_split = refl
 
@@ -171,8 +190,12 @@ abbrev dealt_values : Net
 dealt_values = record split_pair { streams = of_values (5 ∷ []) ∷ of_values (5 ∷ []) ∷ None ∷ []; script = dealing zero_word zero_word ∷ dealing (two_ends 1 5) (two_ends 1 6) ∷ [] }
 
 -- each logs what it received, and the value counts as sent at the one station that received it
-run_of_dealt_values : outcome (run_of dealt_values) ≡ (zero_word ∷ two_ends 2 10 ∷ [], (short (small_value 5) 1 ∷ []) ∷ (short (small_value 6) 1 ∷ []) ∷ [], (short (small_value 5) 1 ∷ []) ∷ [] ∷ [],
-    (0, 0) ∷ (1, 0) ∷ [])
+run_of_dealt_values : outcome (run_of dealt_values) ≡ (
+  zero_word ∷ two_ends 2 10 ∷ [],
+  (short (small_value 5) 1 ∷ []) ∷ (short (small_value 6) 1 ∷ []) ∷ [],
+  (short (small_value 5) 1 ∷ []) ∷ [] ∷ [],
+  (0, 0) ∷ (1, 0) ∷ [],
+)
 unfolding computing rounds_of
 run_of_dealt_values = refl
 
@@ -187,8 +210,13 @@ unfolding computing rounds_of
 delivered_values = refl
 
 -- every station's log has the value 1 once and the value 3 twice, and each station sent its own
-run_of_three_stations : outcome (run_of three_stations) ≡ (zero_word ∷ two_ends 3 7 ∷ two_ends 1 1 ∷ two_ends 2 6 ∷ zero_word ∷ [], replicate 3 (short (small_value 1) 1 ∷ short (small_value 3) 2
-    ∷ []), (short (small_value 1) 1 ∷ []) ∷ (short (small_value 3) 1 ∷ []) ∷ (short (small_value 3) 1 ∷ []) ∷ [], replicate 3 (0, 0))
+run_of_three_stations : outcome (run_of three_stations) ≡ (
+  zero_word ∷ two_ends 3 7 ∷ two_ends 1 1 ∷ two_ends 2 6 ∷ zero_word ∷ [],
+  replicate 3 (short (small_value 1) 1 ∷ short (small_value 3) 2
+      ∷ []),
+  (short (small_value 1) 1 ∷ []) ∷ (short (small_value 3) 1 ∷ []) ∷ (short (small_value 3) 1 ∷ []) ∷ [],
+  replicate 3 (0, 0),
+)
 unfolding computing rounds_of
 run_of_three_stations = refl
 

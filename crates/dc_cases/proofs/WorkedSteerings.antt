@@ -28,8 +28,12 @@ late_difference = record {
 }
 
 -- the last sum gains 4 and 5; first pad 19, in the round of the difference, makes up for second pad 16 at symbol 3
-steering_of_late_difference : steering_of late_difference 0 1 (two_ends 7 9 ∷ []) ≡ record { round = 1; symbol = 15; first = slice_set (slice_set (slice_set (replicate 48 0) 19 35) 32 8) 47 10;
-    second = slice_set (slice_set (replicate 48 0) 1 65533) 16 65532 }
+steering_of_late_difference : steering_of late_difference 0 1 (two_ends 7 9 ∷ []) ≡ record {
+  round = 1;
+  symbol = 15;
+  first = slice_set (slice_set (slice_set (replicate 48 0) 19 35) 32 8) 47 10;
+  second = slice_set (slice_set (replicate 48 0) 1 65533) 16 65532;
+}
 unfolding computing rounds_of power_below changes_up_to
 steering_of_late_difference = refl
 

@@ -81,8 +81,12 @@ abbrev exchange : List ℕ
 exchange = 1 ∷ 0 ∷ 2 ∷ []
 
 -- the sum below station 1 is added to the edge where it is the smaller end, and taken from the edge where station 2 is the larger end
-shifts_of_bent_path : shifts bent_path exchange ≡ record { u = 0; v = 2; words = zero_word ∷ two_ends 0 65533 ∷ two_ends 1 5 ∷ zero_word ∷ [] } ∷ record { u = 1; v = 2; words = zero_word
-    ∷ two_ends 0 4 ∷ two_ends 65536 65532 ∷ zero_word ∷ [] } ∷ []
+shifts_of_bent_path : shifts bent_path exchange ≡ record { u = 0; v = 2; words = zero_word ∷ two_ends 0 65533 ∷ two_ends 1 5 ∷ zero_word ∷ [] } ∷ record {
+  u = 1;
+  v = 2;
+  words = zero_word
+      ∷ two_ends 0 4 ∷ two_ends 65536 65532 ∷ zero_word ∷ [];
+} ∷ []
 unfolding computing rounds_of reached spreads chain
 shifts_of_bent_path = refl
 

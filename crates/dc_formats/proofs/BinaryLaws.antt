@@ -18,9 +18,9 @@ use Rattle.dc_formats.proofs.Pieces.{read_short, read_number, read_symbol, read_
 pub transcript_tells : (x y : Recorded) → IsRecorded x → IsRecorded y → transcript_bytes x ≡ transcript_bytes y → x ≡ y
 transcript_tells x y p q e =
     let apart : to_be_bytes w16 x.stations ++ (to_be_bytes w16 x.rounds ++ flat_map word_bytes x.words) ≡ to_be_bytes w16 y.stations ++ (to_be_bytes w16 y.rounds ++ flat_map word_bytes y.words) =
-        cc in
+    cc in
     let stations : (x.stations ≡ y.stations) × (to_be_bytes w16 x.rounds ++ flat_map word_bytes x.words ≡ to_be_bytes w16 y.rounds ++ flat_map word_bytes y.words) =
-        read_short x.stations y.stations _ _ (omega arith) (omega arith) apart in
+    read_short x.stations y.stations _ _ (omega arith) (omega arith) apart in
     let rounds : (x.rounds ≡ y.rounds) × (flat_map word_bytes x.words ≡ flat_map word_bytes y.words) = read_short x.rounds y.rounds _ _ (omega arith) (omega arith) stations.1 in
     let same : length x.words ≡ length y.words = cc in
     let words : x.words ≡ y.words = (read_counted IsWord word_bytes read_word x.words y.words [] [] p.are_words q.are_words same (without_rest _ _ rounds.1)).0 in
@@ -34,16 +34,16 @@ pair_bounds n t small x y p q = (omega arith, omega arith, omega arith, omega ar
 read_pair : (n t : ℕ) → n ≤ 256 → IsReadable (IsPair n t) pair_bytes
 read_pair n t small x y r s p q e =
     let apart : to_be_bytes w16 x.u ++ (to_be_bytes w16 x.v ++ ((flat_map symbol_bytes x.a ++ flat_map symbol_bytes x.b) ++ r)) ≡ to_be_bytes w16 y.u
-        ++ (to_be_bytes w16 y.v ++ ((flat_map symbol_bytes y.a ++ flat_map symbol_bytes y.b) ++ s)) = e in
+    ++ (to_be_bytes w16 y.v ++ ((flat_map symbol_bytes y.a ++ flat_map symbol_bytes y.b) ++ s)) = e in
     let bounds : (x.u < 2 ^ 16) × (x.v < 2 ^ 16) × (y.u < 2 ^ 16) × (y.v < 2 ^ 16) = pair_bounds n t small x y p q in
     let lesser : (x.u ≡ y.u) × (to_be_bytes w16 x.v ++ ((flat_map symbol_bytes x.a ++ flat_map symbol_bytes x.b) ++ r) ≡ to_be_bytes w16 y.v
-        ++ ((flat_map symbol_bytes y.a ++ flat_map symbol_bytes y.b) ++ s)) = read_short x.u y.u _ _ bounds.0 bounds.2 apart in
+    ++ ((flat_map symbol_bytes y.a ++ flat_map symbol_bytes y.b) ++ s)) = read_short x.u y.u _ _ bounds.0 bounds.2 apart in
     let greater : (x.v ≡ y.v) × ((flat_map symbol_bytes x.a ++ flat_map symbol_bytes x.b) ++ r ≡ (flat_map symbol_bytes y.a ++ flat_map symbol_bytes y.b) ++ s) =
-        read_short x.v y.v _ _ bounds.1 bounds.3 lesser.1 in
+    read_short x.v y.v _ _ bounds.1 bounds.3 lesser.1 in
     let pads : flat_map symbol_bytes x.a ++ (flat_map symbol_bytes x.b ++ r) ≡ flat_map symbol_bytes y.a ++ (flat_map symbol_bytes y.b ++ s) = sym (append_assoc (flat_map symbol_bytes x.a) _ r)
-        ∙ greater.1 ∙ append_assoc (flat_map symbol_bytes y.a) _ s in
+    ∙ greater.1 ∙ append_assoc (flat_map symbol_bytes y.a) _ s in
     let first : (x.a ≡ y.a) × (flat_map symbol_bytes x.b ++ r ≡ flat_map symbol_bytes y.b ++ s) = read_counted IsSymbol symbol_bytes read_symbol x.a y.a _ _ p.first_symbols q.first_symbols
-        (p.first_pads ∙ sym q.first_pads) pads in
+    (p.first_pads ∙ sym q.first_pads) pads in
     let second : (x.b ≡ y.b) × (r ≡ s) = read_counted IsSymbol symbol_bytes read_symbol x.b y.b r s p.second_symbols q.second_symbols (p.second_pads ∙ sym q.second_pads) first.1 in
     ((λ i. record { u = lesser.0 i; v = greater.0 i; a = first.0 i; b = second.0 i }), second.1)
 
@@ -57,16 +57,16 @@ few_pairs k is =
 pub keys_tell : (x y : Keys) → IsKeys x → IsKeys y → keys_bytes x ≡ keys_bytes y → x ≡ y
 keys_tell x y p q e =
     let apart : to_be_bytes w16 x.stations ++ (to_be_bytes w16 x.words ++ (to_be_bytes w32 (length x.pairs) ++ flat_map pair_bytes x.pairs)) ≡ to_be_bytes w16 y.stations ++ (to_be_bytes w16 y.words
-        ++ (to_be_bytes w32 (length y.pairs) ++ flat_map pair_bytes y.pairs)) = cc in
+    ++ (to_be_bytes w32 (length y.pairs) ++ flat_map pair_bytes y.pairs)) = cc in
     let stations : (x.stations ≡ y.stations) × (to_be_bytes w16 x.words ++ (to_be_bytes w32 (length x.pairs) ++ flat_map pair_bytes x.pairs) ≡ to_be_bytes w16 y.words
-        ++ (to_be_bytes w32 (length y.pairs) ++ flat_map pair_bytes y.pairs)) = read_short x.stations y.stations _ _ (omega arith) (omega arith) apart in
+    ++ (to_be_bytes w32 (length y.pairs) ++ flat_map pair_bytes y.pairs)) = read_short x.stations y.stations _ _ (omega arith) (omega arith) apart in
     let words : (x.words ≡ y.words) × (to_be_bytes w32 (length x.pairs) ++ flat_map pair_bytes x.pairs ≡ to_be_bytes w32 (length y.pairs) ++ flat_map pair_bytes y.pairs) =
-        read_short x.words y.words _ _ (omega arith) (omega arith) stations.1 in
+    read_short x.words y.words _ _ (omega arith) (omega arith) stations.1 in
     let count : (length x.pairs ≡ length y.pairs) × (flat_map pair_bytes x.pairs ≡ flat_map pair_bytes y.pairs) = read_number (length x.pairs) (length y.pairs) _ _ (few_pairs x p)
-        (few_pairs y q) words.1 in
+    (few_pairs y q) words.1 in
     let theirs : All (IsPair x.stations x.words) y.pairs = rw (stations.0, words.0) q.are_pairs in
     let pairs : x.pairs ≡ y.pairs = (read_counted (IsPair x.stations x.words) pair_bytes (read_pair x.stations x.words p.most_stations) x.pairs y.pairs [] [] p.are_pairs theirs count.0
-        (without_rest _ _ count.1)).0 in
+    (without_rest _ _ count.1)).0 in
     λ i. record { stations = stations.0 i; words = words.0 i; pairs = pairs i }
 
 -- a frame, whatever follows

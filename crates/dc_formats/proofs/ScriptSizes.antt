@@ -61,7 +61,7 @@ few_words turn said dealt fits =
     let xs = stations_of turn.says in
     let ys = stations_of (delivered_words turn.delivery) in
     let few : length (xs ++ ys) ≤ limit.most_stations = length-le_from_distinct_below (xs ++ ys) limit.most_stations (all_differ xs ys said dealt fits.apart)
-        (below_in limit.most_stations (xs ++ ys) (All-append (λ i. i < limit.most_stations) xs ys fits.saying fits.receiving)) in
+    (below_in limit.most_stations (xs ++ ys) (All-append (λ i. i < limit.most_stations) xs ys fits.saying fits.receiving)) in
     omega (arith, length-append xs ys, length-map turn.says (λ (w : ℕ × List ℕ). w.0), length-map (delivered_words turn.delivery) (λ (w : ℕ × List ℕ). w.0))
 
 -- ---- sizes
@@ -81,9 +81,9 @@ station_line_size beginning w short is =
     let first : length (beginning ++ decimal w.0) ≡ length beginning + length (decimal w.0) = length-append beginning (decimal w.0) in
     let blank : length (beginning ++ decimal w.0 ++ codes " ") ≡ length (beginning ++ decimal w.0) + 1 = length-append (beginning ++ decimal w.0) (codes " ") in
     let all : length (beginning ++ decimal w.0 ++ codes " " ++ word_text w.1) ≡ length (beginning ++ decimal w.0 ++ codes " ") + length (word_text w.1) = length-append (beginning ++ decimal w.0
-        ++ codes " ") (word_text w.1) in
+    ++ codes " ") (word_text w.1) in
     let whole : length (station_word_line beginning w.0 w.1) ≡ length (beginning ++ decimal w.0 ++ codes " " ++ word_text w.1) + 1 = line_size (beginning ++ decimal w.0 ++ codes " "
-        ++ word_text w.1) in
+    ++ word_text w.1) in
     omega arith
 
 -- words of stations below the limit
@@ -91,7 +91,7 @@ station_lines_size : (beginning : List ℕ) (ws : List (ℕ × List ℕ)) → le
     → length (flat_map (λ w. station_word_line beginning w.0 w.1) ws) ≤ length ws * 89
 station_lines_size beginning ws short below are =
     length_within (λ w. (w.0 < 256) × IsWord w.1) (λ w. station_word_line beginning w.0 w.1) 89 (λ w is. station_line_size beginning w short is) ws
-        (λ k d lt. (subst (λ i. i < 256) (get_or-map (λ (w : ℕ × List ℕ). w.0) ws k d d.0 lt) (below k d.0 (omega (arith, length-map ws (λ (w : ℕ × List ℕ). w.0)))), are k d lt))
+    (λ k d lt. (subst (λ i. i < 256) (get_or-map (λ (w : ℕ × List ℕ). w.0) ws k d d.0 lt) (below k d.0 (omega (arith, length-map ws (λ (w : ℕ × List ℕ). w.0)))), are k d lt))
 
 -- what is delivered
 delivery_size : (delivery : Delivery) → All (λ i. i < 256) (stations_of (delivered_words delivery)) → All (λ w. IsWord w.1) (delivered_words delivery)
@@ -117,10 +117,10 @@ turn_size r turn low is fits =
     let says = station_lines_size (codes "say ") turn.says (lit≤ tt) fits.saying is.said.are_words in
     let delivers = delivery_size turn.delivery fits.receiving dealt.are_words in
     let lines : length (line (codes "round " ++ decimal r) ++ flat_map (λ s. station_word_line (codes "say ") s.0 s.1) turn.says) ≡ length (line (codes "round " ++ decimal r)) + length
-        (flat_map (λ s. station_word_line (codes "say ") s.0 s.1) turn.says) =
-        length-append (line (codes "round " ++ decimal r)) (flat_map (λ s. station_word_line (codes "say ") s.0 s.1) turn.says) in
+    (flat_map (λ s. station_word_line (codes "say ") s.0 s.1) turn.says) =
+    length-append (line (codes "round " ++ decimal r)) (flat_map (λ s. station_word_line (codes "say ") s.0 s.1) turn.says) in
     let whole : length (turn_lines r turn) ≡ length (line (codes "round " ++ decimal r) ++ flat_map (λ s. station_word_line (codes "say ") s.0 s.1) turn.says) + length (delivery_lines turn.delivery) =
-        length-append (line (codes "round " ++ decimal r) ++ flat_map (λ s. station_word_line (codes "say ") s.0 s.1) turn.says) (delivery_lines turn.delivery) in
+    length-append (line (codes "round " ++ decimal r) ++ flat_map (λ s. station_word_line (codes "say ") s.0 s.1) turn.says) (delivery_lines turn.delivery) in
     omega arith
 
 -- rounds from one on
@@ -131,7 +131,7 @@ turns_size r (turn ∷ turns) low are fit =
     let here = turn_size r turn (omega arith) (All-head IsTurn turn turns are) (All-head FitsNets turn turns fit) in
     let rest = turns_size (r + 1) turns (omega arith) (All-tail IsTurn turn turns are) (All-tail FitsNets turn turns fit) in
     let whole : length (flat_map (λ (t : ℕ × Turn). turn_lines t.0 t.1) (enumerate_from r (turn ∷ turns))) ≡ length (turn_lines r turn) + length (flat_map (λ (t : ℕ × Turn). turn_lines t.0 t.1)
-        (enumerate_from (r + 1) turns)) = length-append (turn_lines r turn) (flat_map (λ t. turn_lines t.0 t.1) (enumerate_from (r + 1) turns)) in
+    (enumerate_from (r + 1) turns)) = length-append (turn_lines r turn) (flat_map (λ t. turn_lines t.0 t.1) (enumerate_from (r + 1) turns)) in
     omega arith
 
 -- a script whose rounds fit a net is within the read limit
@@ -140,5 +140,5 @@ script_size turns is fit =
     let most : length turns ≤ 4096 = is.most_rounds in
     let rounds = turns_size 0 turns (omega arith) is.are_turns fit in
     let whole : length (script_text turns) ≡ length (line (codes "dcscript 1")) + length (flat_map (λ (t : ℕ × Turn). turn_lines t.0 t.1) (enumerate_from 0 turns)) =
-        length-append (line (codes "dcscript 1")) (flat_map (λ t. turn_lines t.0 t.1) (enumerate_from 0 turns)) in
+    length-append (line (codes "dcscript 1")) (flat_map (λ t. turn_lines t.0 t.1) (enumerate_from 0 turns)) in
     omega arith

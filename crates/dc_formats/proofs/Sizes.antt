@@ -85,7 +85,7 @@ pair_size n t p is =
     let first : length (flat_map symbol_bytes p.a) ≤ length p.a * 4 = each_within symbol_bytes 4 (λ x. lit≤ tt) p.a in
     let second : length (flat_map symbol_bytes p.b) ≤ length p.b * 4 = each_within symbol_bytes 4 (λ x. lit≤ tt) p.b in
     let whole : length (pair_bytes p) ≡ 4 + (length (flat_map symbol_bytes p.a) + length (flat_map symbol_bytes p.b)) = rw (← length-append (flat_map symbol_bytes p.a) (flat_map symbol_bytes p.b))
-        (omega arith) in
+    (omega arith) in
     let long : length p.a ≡ 16 * t = is.first_pads in
     let long' : length p.b ≡ 16 * t = is.second_pads in
     omega arith
@@ -98,7 +98,7 @@ spread q t = grind arith
 pub keys_size : (k : Keys) → IsKeys k → length (keys_bytes k) ≤ limit.key_file_limit
 keys_size k is =
     let pairs : length (flat_map pair_bytes k.pairs) ≤ length k.pairs * (4 + 128 * k.words) = length_within (IsPair k.stations k.words) pair_bytes (4 + 128 * k.words)
-        (pair_size k.stations k.words) k.pairs is.are_pairs in
+    (pair_size k.stations k.words) k.pairs is.are_pairs in
     let count : length k.pairs ≤ 65536 = pair_count k.stations k.words k.pairs is.most_stations is.are_pairs is.rising in
     let whole : length (keys_bytes k) ≡ 12 + length (flat_map pair_bytes k.pairs) = omega arith in
     let most : length k.pairs * (32 * k.words) ≤ 2 ^ 26 = is.most_symbols in

@@ -27,7 +27,7 @@ figures_printable t figures = All-weaker IsFigure IsPrintable (λ c figure. (ome
 pub printable_by_test : (t : List ℕ) → list_all (λ c. nat_le 32 c && nat_le c 126) t ≡ true → IsTextLine t
 printable_by_test t e =
     All-weaker (λ c. (nat_le 32 c && nat_le c 126) ≡ true) IsPrintable (λ c passed. (grind (arith, nat_tests), grind (arith, nat_tests))) t (AllPass-from_list_all (λ c. nat_le 32 c
-        && nat_le c 126) t e)
+    && nat_le c 126) t e)
 
 -- one text after another
 pub joined : (a b : List ℕ) → IsTextLine a → IsTextLine b → IsTextLine (a ++ b)

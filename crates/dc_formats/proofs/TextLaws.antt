@@ -88,7 +88,7 @@ longs_end (c ∷ coins) v t is e = other_letter 99 108 _ _ e (λ same. omega ari
 pub stream_tells : (x y : Stream) → IsStream x → IsStream y → stream_text x ≡ stream_text y → x ≡ y
 stream_tells x y p q e =
     let apart : flat_map short_line x.shorts ++ (flat_map long_line x.longs ++ flat_map coin_line x.coins) ≡ flat_map short_line y.shorts ++ (flat_map long_line y.longs
-        ++ flat_map coin_line y.coins) =
+    ++ flat_map coin_line y.coins) =
     sym (append_assoc (flat_map short_line x.shorts) _ _) ∙ e ∙ append_assoc (flat_map short_line y.shorts) _ _ in
     let shorts : (x.shorts ≡ y.shorts) × (flat_map long_line x.longs ++ flat_map coin_line x.coins ≡ flat_map long_line y.longs ++ flat_map coin_line y.coins) =
     read_until IsValue short_line read_short_line x.shorts y.shorts _ _ p.are_values q.are_values (shorts_end x.longs x.coins) (shorts_end y.longs y.coins) apart in
@@ -107,7 +107,7 @@ read_station_word : (i j : ℕ) (v w r s : List ℕ) → i < 65536 → j < 65536
 read_station_word i j v w r s p q is is' e =
     let apart : decimal i ++ 32 ∷ (word_text v ++ 10 ∷ r) ≡ decimal j ++ 32 ∷ (word_text w ++ 10 ∷ s) = simp append_assoc at e in
     let number : (decimal i ≡ decimal j) × (word_text v ++ 10 ∷ r ≡ word_text w ++ 10 ∷ s) = read_to_byte 32 (decimal i) (decimal j) _ _ (no_blank (decimal i) (decimal_figures i (omega arith)))
-        (no_blank (decimal j) (decimal_figures j (omega arith))) apart in
+    (no_blank (decimal j) (decimal_figures j (omega arith))) apart in
     let same : i ≡ j = decimal_injective i j (omega arith) (omega arith) number.0 in
     let words : (v ≡ w) × (10 ∷ r ≡ 10 ∷ s) = read_word_text v w _ _ is is' number.1 in
     (same, words.0, cc (words.1))
@@ -185,7 +185,7 @@ read_turn k x y r s p q after after' e =
     let dealt' : IsDealt y.delivery = dealt_of y q y.delivery refl in
     let says : (x.says ≡ y.says) × (delivery_lines x.delivery ++ r ≡ delivery_lines y.delivery ++ s) =
     read_until IsStationWord (λ d. station_word_line (codes "say ") d.0 d.1) read_say_line x.says y.says _ _ (station_words x.says p.said) (station_words y.says q.said) (says_end x.delivery r dealt)
-        (says_end y.delivery s dealt') (append_cancel_left head _ _ apart) in
+    (says_end y.delivery s dealt') (append_cancel_left head _ _ apart) in
     let delivered : (x.delivery ≡ y.delivery) × (r ≡ s) = read_delivery x.delivery y.delivery r s dealt dealt' after after' says.1 in
     ((λ i. record { says = says.0 i; delivery = delivered.0 i }), delivered.1)
 

@@ -12,7 +12,7 @@ use Rattle.dc_spec.specs.Pads.{Pair, Keys}
 abbrev pub pair_bytes : Pair → List ℕ
 pair_bytes p =
     to_be_bytes w16 p.u ++ to_be_bytes w16 p.v ++ flat_map symbol_bytes p.a
-        ++ flat_map symbol_bytes p.b
+    ++ flat_map symbol_bytes p.b
 
 -- the letters DCK, the version, the numbers of stations, words and pairs, the pairs
 abbrev pub keys_bytes : Keys → List ℕ
@@ -40,7 +40,7 @@ pub record IsPairBefore (p q : Pair) : Type 0 where
 abbrev pub ArePairsRising : List Pair → Type 0
 ArePairsRising ps =
     (i : ℕ) (d : Pair) → i + 1 < length ps
-        → IsPairBefore (slice_index_or ps i d) (slice_index_or ps (i + 1) d)
+    → IsPairBefore (slice_index_or ps i d) (slice_index_or ps (i + 1) d)
 
 -- at least one station and one word, no more than the limits of stations, words and pads, and pairs
 -- in order

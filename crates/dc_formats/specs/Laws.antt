@@ -111,7 +111,7 @@ pub record FitsNets (turn : Turn) : Type 0 where
 abbrev pub ScriptsAreWithin : Type 0
 ScriptsAreWithin =
     (turns : List Turn) → IsScript turns → All FitsNets turns
-        → length (script_text turns) ≤ limit.script_limit
+    → length (script_text turns) ≤ limit.script_limit
 
 -- and files of images
 abbrev pub ImagesAreWithin : Type 0
@@ -130,4 +130,4 @@ TextFilesHaveLines =
 abbrev pub EndedLinesAreFile : Type 0
 EndedLinesAreFile =
     (bytes : List ℕ) (texts : List (List ℕ)) → file_lines bytes ≡ map ended texts
-        → bytes ≡ text_file texts
+    → bytes ≡ text_file texts

@@ -11,7 +11,7 @@ station_word_line beginning i w = line (beginning ++ decimal i ++ codes " " ++ w
 abbrev pub pair_word_line : List ℕ → ℕ → ℕ → ℕ → List ℕ → List ℕ
 pair_word_line beginning u v r w = line
     (beginning ++ decimal u ++ codes " " ++ decimal v ++ codes " " ++ decimal r ++ codes " "
-        ++ word_text w)
+    ++ word_text w)
 
 -- the items of one round, of a list that has so many items for each round
 abbrev pub items_of_round : {A : Type 0} → ℕ → ℕ → List A → List A

@@ -61,12 +61,15 @@ lacking_counts g u (suc m) k w low =
     let rest = lacking_counts g u m (suc k) w low in
     let more = lacking (spreads g (reached g u (suc k)) m) w in
     let split : lacking (spreads g (reached g u k) (suc m)) w ≡ cond (not (is_among (reached g u k) w)) 1 0 + more = sum_by-cons (λ ys. cond (not (is_among ys w)) 1 0) (reached g u k)
-        (spreads g (one_step_more g (reached g u k)) m) in
+    (spreads g (one_step_more g (reached g u k)) m) in
     elim (cases_Bool (is_among (reached g u k) w)) [
       | inl there ↦ (let none = never_lacking g (reached g u (suc k)) m w low (reached_kept g (reached g u k) w low there) in
-          let all : lacking (spreads g (reached g u k) (suc m)) w ≡ 0 = split ∙ ap (λ b. cond {A = ℕ} (not b) 1 0 + more) there ∙ (let last : 0 + more ≡ 0 = omega arith in last) in
-          ((λ i less. absurd (omega arith)), (λ less. subst (λ (j : ℕ). is_among (reached g u j) w ≡ true) (let same : k ≡ k + lacking (spreads g (reached g u k) (suc m)) w = omega arith in
-              same) there), omega arith))
+          let all : lacking (spreads g (reached g u k) (suc m)) w ≡ 0 = split ∙ ap (λ b. cond {A = ℕ} (not b) 1 0 + more) there ∙ (let last : 0 + more ≡ 0 = omega arith in last) in (
+            (λ i less. absurd (omega arith)),
+            (λ less. subst (λ (j : ℕ). is_among (reached g u j) w ≡ true) (let same : k ≡ k + lacking (spreads g (reached g u k) (suc m)) w = omega arith in
+                same) there),
+            omega arith,
+          ))
       | inr missing ↦ (let all : lacking (spreads g (reached g u k) (suc m)) w ≡ 1 + more = split ∙ ap (λ b. cond {A = ℕ} (not b) 1 0 + more) missing in
           let bound = rest.2 in (
             (λ i less. absent i missing rest.0 (omega arith)),
@@ -115,12 +118,12 @@ first_least : (p : ℕ → Bool) (a n x : ℕ) → is_among (filter p (range_wit
 first_least p a zero x h = absurd (true≢false (sym h))
 first_least p a (suc n) x h = (elim (p a) as (λ b. is_among (cond b (a ∷ filter p (range_with_len (a + 1) n)) (filter p (range_with_len (a + 1) n))) x ≡ true
     → slice_index (cond b (a ∷ filter p (range_with_len (a + 1) n)) (filter p (range_with_len (a + 1) n))) 0 ≤ x) [
-  | true ↦ λ there. elim (or_cases (nat_eq x a) (is_among (filter p (range_with_len (a + 1) n)) x) there) [
-    | inl same ↦ (let e : x ≡ a = eqb-true x a same in omega arith)
-    | inr later ↦ (let low = from_range (a + 1) n x (kept_stands p (range_with_len (a + 1) n) x later) in omega arith)
-  ]
-  | false ↦ λ there. first_least p (a + 1) n x there
-]) h
+      | true ↦ λ there. elim (or_cases (nat_eq x a) (is_among (filter p (range_with_len (a + 1) n)) x) there) [
+        | inl same ↦ (let e : x ≡ a = eqb-true x a same in omega arith)
+        | inr later ↦ (let low = from_range (a + 1) n x (kept_stands p (range_with_len (a + 1) n) x later) in omega arith)
+      ]
+      | false ↦ λ there. first_least p (a + 1) n x there
+    ]) h
 
 -- the stations of a part are stations
 part_below : (g : KeyGraph) (u w : ℕ) → u < g.stations → is_among (part g u) w ≡ true → w < g.stations
@@ -178,7 +181,7 @@ unfolding reached
 nearer_neighbour g good r w d low far =
     let length_of = far.count in
     let arrived : is_among (reached g r (suc d)) w ≡ true = subst (λ (j : ℕ). is_among (reached g r j) w ≡ true) (let same : 0 + length far.walk ≡ suc d = omega arith in same)
-        (walk_reached g good r 0 r far.walk w (start_reached g r 0 low) far.is_walk) in
+    (walk_reached g good r 0 r far.walk w (start_reached g r 0 low) far.is_walk) in
     let near = witness (λ v. nat_eq v w || are_neighbours g v w) (reached g r d) (kept_passes _ (range_with_len 0 g.stations) w arrived) in
     let edge : are_neighbours g near.0 w ≡ true = elim (or_cases (nat_eq near.0 w) (are_neighbours g near.0 w) near.2) [
       | inl same ↦ (let sooner = reached_walk g r d w (subst (λ (z : ℕ). is_among (reached g r d) z ≡ true) (eqb-true near.0 w same) near.1) in
@@ -218,7 +221,7 @@ parent_listed g w low = get_or-map-range_with_len (parent g) 0 g.stations w w No
 parent_part : (g : KeyGraph) → IsKeyGraph g → (w u : ℕ) → w < g.stations → parent g w ≡ Some u → (u < g.stations) × (part g u ≡ part g w)
 parent_part g good w u low is =
     let found = found_passes (λ u. are_neighbours g u w && (lacking (spreads g (root g w ∷ []) g.stations) u + 1 == lacking (spreads g (root g w ∷ []) g.stations) w))
-        (range_with_len 0 g.stations) u is in
+    (range_with_len 0 g.stations) u is in
     let edge = (and_parts (are_neighbours g u w) _ found.0).0 in
     let inside = neighbour_below g good w u (neighbours-comm g u w edge) in
     (inside, part-neighbours g good u w inside low edge)

@@ -98,20 +98,20 @@ pub chain_meets : (ps : List (Option ℕ)) (rank : ℕ → ℕ) → AreRanked ps
 unfolding chain
 chain_meets ps rank ranked zero w v x low fuel = (elim (slice_index_or ps w None) as (λ o. slice_index_or ps w None ≡ o → cond (is_among (w ∷ []) v) x 0 ≡ cond (nat_eq v w) x 0 + sum_by
     (λ c. cond (is_parent ps v c) (cond (is_among (w ∷ []) c) x 0) 0) (range_with_len 0 (length ps))) [
-  | None ↦ λ e. ended_chain ps w v x low e
-  | Some u ↦ λ e. absurd (let less = (ranked.falls w u e).0 in omega arith)
-]) refl
+      | None ↦ λ e. ended_chain ps w v x low e
+      | Some u ↦ λ e. absurd (let less = (ranked.falls w u e).0 in omega arith)
+    ]) refl
 chain_meets ps rank ranked (suc k) w v x low fuel = (elim (slice_index_or ps w None) as (λ o. slice_index_or ps w None ≡ o → cond (is_among (w ∷ option_map_or (chain ps k) o []) v) x 0
     ≡ cond (nat_eq v w) x 0 + sum_by (λ c. cond (is_parent ps v c) (cond (is_among (w ∷ option_map_or (chain ps k) o []) c) x 0) 0) (range_with_len 0 (length ps))) [
-  | None ↦ λ e. ended_chain ps w v x low e
-  | Some u ↦ λ e. (let less = (ranked.falls w u e).0 in
-      longer_chain ps (chain ps k u) w u v x low e
-      (elim (cases_Bool (is_among (chain ps k u) w)) [
-        | inl there ↦ absurd (let high = chain_ranks ps rank ranked k u w there in omega arith)
-        | inr missing ↦ missing
-      ])
-      (chain_meets ps rank ranked k u v x (ranked.falls w u e).1 (omega arith)))
-]) refl
+      | None ↦ λ e. ended_chain ps w v x low e
+      | Some u ↦ λ e. (let less = (ranked.falls w u e).0 in
+          longer_chain ps (chain ps k u) w u v x low e
+          (elim (cases_Bool (is_among (chain ps k u) w)) [
+            | inl there ↦ absurd (let high = chain_ranks ps rank ranked k u w there in omega arith)
+            | inr missing ↦ missing
+          ])
+          (chain_meets ps rank ranked k u v x (ranked.falls w u e).1 (omega arith)))
+    ]) refl
 
 -- the sum below a station is its own number plus the sums below its children
 pub below-children : (ps : List (Option ℕ)) (rank : ℕ → ℕ) → AreRanked ps rank → (f : ℕ → ℕ) (v : ℕ) → v < length ps →
@@ -124,7 +124,7 @@ below-children ps rank ranked f v low =
     let each = sum_by-same (λ w. cond (meets w v) (f w) 0) (λ w. cond (nat_eq w v) (f w) 0 + sum_by (λ c. cond (is_parent ps v c) (cond (meets w c) (f w) 0) 0) stations) stations
     (λ w h. let bound : w < 0 + n = below_range 0 n w h in let inside : w < n = omega arith in
     subst (λ (b : Bool). cond (meets w v) (f w) 0 ≡ cond b (f w) 0 + sum_by (λ c. cond (is_parent ps v c) (cond (meets w c) (f w) 0) 0) stations) (nat_eq-comm v w) (chain_meets ps rank ranked n w v
-        (f w) inside (ranked.most w))) in
+    (f w) inside (ranked.most w))) in
     let parts = sum_by-plus (λ w. cond (nat_eq w v) (f w) 0) (λ w. sum_by (λ c. cond (is_parent ps v c) (cond (meets w c) (f w) 0) 0) stations) stations in
     let own = sum_by-single f 0 n v zero-le (omega arith) in
     let turned = sum_by-exchange (λ w c. cond (is_parent ps v c) (cond (meets w c) (f w) 0) 0) stations stations in
@@ -155,7 +155,7 @@ part-neighbours g good u w low_u low_w edge =
     let of_w = reached_as_filter g w g.stations (omega arith) in
     let stations = range_with_len 0 g.stations in
     let across = λ (a b : ℕ) (pa : ℕ → Bool) (pb : ℕ → Bool) (is_a : part g a ≡ filter pa stations) (is_b : part g b ≡ filter pb stations) (low_a : a < g.stations) (low_b : b < g.stations)
-        (step : are_neighbours g b a ≡ true) (x : ℕ) (there : is_among stations x ≡ true) (h : pa x ≡ true).
+    (step : are_neighbours g b a ≡ true) (x : ℕ) (there : is_among stations x ≡ true) (h : pa x ≡ true).
     let walk = (joined-walks g good a x low_a).0 (subst (λ (xs : List ℕ). is_among xs x ≡ true) (sym is_a) (passes_kept pa stations x there h)) in
     kept_passes pb stations x (subst (λ (xs : List ℕ). is_among xs x ≡ true) is_b ((joined-walks g good b x low_b).1 (a ∷ walk.0, (step, walk.1)))) in
     of_u.1 ∙ filter-same of_u.0 of_w.0 stations (λ x there. test-same (of_u.0 x) (of_w.0 x)
@@ -219,7 +219,7 @@ sums-meet_demands g good demands v low good_word =
     let kids : (l : ℕ) → l < 16 → slice_index (word_sum (map (below_sum ps demands) (children ps v))) l ≡ sum_by (λ c. below l c % 65537) (children ps v) % 65537 = λ l inside.
     symbol-word_of (λ k. sum_by (λ w. slice_index w k) (map (below_sum ps demands) (children ps v)) % 65537) l inside
     ∙ ap (λ s. s % 65537) (sum_by-map (λ w. slice_index w l) (below_sum ps demands) (children ps v) ∙ sum_by-same (λ c. slice_index (below_sum ps demands c) l) (λ c. below l c % 65537)
-        (children ps v) (λ c h. each l c inside)) in
+    (children ps v) (λ c h. each l c inside)) in
     sym (word_from_symbols (λ l. (slice_index (below_sum ps demands v) l + (65537 - slice_index (word_sum (map (below_sum ps demands) (children ps v))) l)) % 65537)
     (slice_index_or demands v zero_word) good_word.sixteen
     (λ l inside.

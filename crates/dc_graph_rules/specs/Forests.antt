@@ -72,4 +72,4 @@ abbrev pub below_sums : KeyGraph → List (List ℕ) → List (List ℕ)
 below_sums g demands =
     let ps = parents g in
     map (λ v. if is_among g.coalition v then zero_word else below_sum ps demands v)
-        (range_with_len 0 g.stations)
+    (range_with_len 0 g.stations)

@@ -42,7 +42,7 @@ AreJoined g u w = (walk : List ℕ) × IsWalk g u walk w
 abbrev pub one_step_more : KeyGraph → List ℕ → List ℕ
 one_step_more g from =
     filter (λ w. list_any (λ v. nat_eq v w || are_neighbours g v w) from)
-        (range_with_len 0 g.stations)
+    (range_with_len 0 g.stations)
 
 -- the stations that a walk of at most so many steps from u reaches
 unfoldable pub reached : KeyGraph → ℕ → ℕ → List ℕ

@@ -30,9 +30,9 @@ position_stands : {X : Type 0} (p : X → Bool) (s : ℕ) (xs : List X) (k : ℕ
 position_stands p s [] k h = absurd (none_some k _ h refl)
 position_stands p s (x ∷ xs) k h = (elim (p x) as (λ b. p x ≡ b → cond b (Some s) (position_from p (s + 1) xs) ≡ Some k → (i : ℕ) × (y : _) × (k ≡ s + i) × (slice_get (x ∷ xs) i ≡ Some y)
     × (p y ≡ true)) [
-  | true ↦ λ e found. (0, x, (let same = same_some s k found in omega arith), refl, e)
-  | false ↦ λ e later. (let rest = position_stands p (s + 1) xs k later in (suc rest.0, rest.1, (let at = rest.2 in omega arith), rest.3, rest.4))
-]) refl h
+      | true ↦ λ e found. (0, x, (let same = same_some s k found in omega arith), refl, e)
+      | false ↦ λ e later. (let rest = position_stands p (s + 1) xs k later in (suc rest.0, rest.1, (let at = rest.2 in omega arith), rest.3, rest.4))
+    ]) refl h
 
 -- where an item passes, the search finds one
 position_found : {X : Type 0} (p : X → Bool) (s : ℕ) (xs : List X) (i : ℕ) (x : X) → slice_get xs i ≡ Some x → p x ≡ true → (k : ℕ) × (position_from p s xs ≡ Some k)
@@ -142,9 +142,9 @@ end_full : (n : ℕ) (xs : List Arrival) (t from s : ℕ) → end_from n xs t fr
 end_full n xs t from s h = (elim (length (places n xs from t) == n) as (λ b. length (places n xs from t) == n ≡ b
     → (if b then Some (fold (λ m place. max m (place + 1)) from (places n xs from t)) else None) ≡ Some s → (length (places n xs from t) ≡ n)
     × (fold (λ m place. max m (place + 1)) from (places n xs from t) ≡ s)) [
-  | true ↦ λ e found. (eqb-true (length (places n xs from t)) n e, same_some _ s found)
-  | false ↦ λ e missing. absurd (none_some s _ missing refl)
-]) refl h
+      | true ↦ λ e found. (eqb-true (length (places n xs from t)) n e, same_some _ s found)
+      | false ↦ λ e missing. absurd (none_some s _ missing refl)
+    ]) refl h
 
 -- and one that has all places has an end
 full_end : (n : ℕ) (xs : List Arrival) (t from : ℕ) → length (places n xs from t) ≡ n → end_from n xs t from ≡ Some (fold (λ m place. max m (place + 1)) from (places n xs from t))
@@ -165,7 +165,7 @@ end_kept n xs more t from s h =
 end_within : (n : ℕ) (xs : List Arrival) (t from s : ℕ) → from ≤ length xs → end_from n xs t from ≡ Some s → s ≤ length xs
 end_within n xs t from s low h =
     let bound = last_place (λ i. first_arrival xs from i t) (length xs) from (range_with_len 0 n) low (λ i k found. let stands = place_stands xs from i t k found in
-        slice_get_within xs k stands.0 stands.1) in
+    slice_get_within xs k stands.0 stands.1) in
     let is = (end_full n xs t from s h).1 in
     omega arith
 
@@ -278,7 +278,7 @@ taken_new n rounds before a h =
     step : (b c d e : Bool) (o : Option (List ℕ)) → nat_lt a.round (complete_rounds n rounds before) ≡ d → nat_lt (complete_rounds n rounds before) a.round ≡ e
         → accepted n before a.station (complete_rounds n rounds before) ≡ o →
         is_taken (if b then no_station a.station else if c then over else if d then old (complete_rounds n rounds before) else if e then ahead
-            (complete_rounds n rounds before) else reply_now n before a o) ≡ true → IsNew n rounds before a
+        (complete_rounds n rounds before) else reply_now n before a o) ≡ true → IsNew n rounds before a
     step true c d e o is_d is_e is_o taken = absurd (true≢false (sym taken))
     step false true d e o is_d is_e is_o taken = absurd (true≢false (sym taken))
     step false false true e o is_d is_e is_o taken = absurd (true≢false (sym taken))

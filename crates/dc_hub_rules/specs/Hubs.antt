@@ -52,7 +52,7 @@ accepted_place n arrivals i t =
 abbrev pub accepted : ℕ → List Arrival → ℕ → ℕ → Option (List ℕ)
 accepted n arrivals i t =
     option_and_then (λ place. option_map (λ a. a.word) (slice_get arrivals place))
-        (accepted_place n arrivals i t)
+    (accepted_place n arrivals i t)
 
 -- the sum of the accepted words of a round
 abbrev pub accepted_sum : ℕ → List Arrival → ℕ → List ℕ

@@ -7,4 +7,4 @@ use Rattle.dc_hub_rules.specs.Hubs.{Arrival, AreAllTaken, broadcast}
 abbrev pub BroadcastsAgree : Type 0
 BroadcastsAgree =
     (n rounds : ℕ) (xs ys : List Arrival) → IsPermutation xs ys → AreAllTaken n rounds xs
-        → AreAllTaken n rounds ys → (t : ℕ) → broadcast n xs t ≡ broadcast n ys t
+    → AreAllTaken n rounds ys → (t : ℕ) → broadcast n xs t ≡ broadcast n ys t

@@ -24,7 +24,7 @@ counted_once end f n (p ∷ ps) low =
     let ih = counted_once end f n ps (λ k d less. low (suc k) d (omega arith)) in
     let here : end p < n = low 0 p (omega arith) in
     let apart = sum_by-same (λ i. sum_by f (filter (λ q. end q == i) (p ∷ ps))) (λ i. cond (nat_eq i (end p)) (f p) 0 + sum_by f (filter (λ q. end q == i) ps)) (range_with_len 0 n)
-        (λ i there. one_more end f p ps i) in
+    (λ i there. one_more end f p ps i) in
     let both = sum_by-plus (λ i. cond (nat_eq i (end p)) (f p) 0) (λ i. sum_by f (filter (λ q. end q == i) ps)) (range_with_len 0 n) in
     let single = sum_by-single (λ i. f p) 0 n (end p) zero-le (omega arith) in
     let whole = sum_by-cons f p ps in
@@ -61,13 +61,13 @@ keys-cancel n pairs history low_u low_v = word_of-same _ (λ l. 0) (λ l inside.
     ∙ ap (λ s. (s + (65537 - slice_index (key_sum (filter (λ p. p.v == i) pairs) history) l)) % 65537) (sum_at (filter (λ p. p.u == i) pairs))
     ∙ ap (λ s. (a i + (65537 - s)) % 65537) (sum_at (filter (λ p. p.v == i) pairs)) in
     let parts = sum_by-map (λ w. slice_index w l) (λ i. key_part pairs i history) stations ∙ sum_by-same (λ i. slice_index (key_part pairs i history) l) (λ i. (a i + (65537 - b i)) % 65537) stations
-        (λ i there. part_at i) in
+    (λ i there. part_at i) in
     let reduced = sum_by-mod (λ i. a i + (65537 - b i)) stations in
     let full = filled_up a b stations (λ i. at_most (sum_by f (filter (λ p. p.v == i) pairs))) in
     let in_a : sum_by a stations % 65537 ≡ sum_by f pairs % 65537 = sum_by-mod (λ i. sum_by f (filter (λ p. p.u == i) pairs)) stations
-        ∙ ap (λ s. s % 65537) (counted_once (λ p. p.u) f n pairs low_u) in
+    ∙ ap (λ s. s % 65537) (counted_once (λ p. p.u) f n pairs low_u) in
     let in_b : sum_by b stations % 65537 ≡ sum_by f pairs % 65537 = sum_by-mod (λ i. sum_by f (filter (λ p. p.v == i) pairs)) stations
-        ∙ ap (λ s. s % 65537) (counted_once (λ p. p.v) f n pairs low_v) in
+    ∙ ap (λ s. s % 65537) (counted_once (λ p. p.v) f n pairs low_v) in
     ap (λ s. s % 65537) parts ∙ reduced ∙ cancelled _ _ _ (length stations) (sum_by f pairs) full in_b in_a)
   where
     at_most : (x : ℕ) → x % 65537 ≤ 65537

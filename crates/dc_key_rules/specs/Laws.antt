@@ -9,5 +9,5 @@ use Rattle.dc_key_rules.specs.PairKeys.{key_part}
 abbrev pub KeysCancel : Type 0
 KeysCancel =
     (n : ℕ) (pairs : List Pair) (history : List (List ℕ)) → All (λ p. p.u < n) pairs
-        → All (λ p. p.v < n) pairs →
+    → All (λ p. p.v < n) pairs →
     word_sum (map (λ i. key_part pairs i history) (range_with_len 0 n)) ≡ zero_word

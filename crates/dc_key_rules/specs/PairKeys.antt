@@ -14,7 +14,7 @@ symbols words = flat_map (λ w. w) words
 abbrev pub key_symbol : List ℕ → List ℕ → List ℕ → ℕ → ℕ → ℕ
 key_symbol a b c before n =
     (slice_index a n + sum_by (λ k. slice_index b (n - k) * slice_index c k)
-        (range_with_len 0 before)) % 65537
+    (range_with_len 0 before)) % 65537
 
 -- the key of a pair for word t, after the received symbols c
 abbrev pub key_word : Pair → List ℕ → ℕ → List ℕ
@@ -29,7 +29,7 @@ key_sum pairs history = word_sum (map (λ p. key_word p (symbols history) (lengt
 abbrev pub key_part : List Pair → ℕ → List (List ℕ) → List ℕ
 key_part pairs i history =
     word_sub (key_sum (filter (λ p. p.u == i) pairs) history)
-        (key_sum (filter (λ p. p.v == i) pairs) history)
+    (key_sum (filter (λ p. p.v == i) pairs) history)
 
 -- the sum of two lists of pads
 abbrev pub pads_add : List ℕ → List ℕ → List ℕ

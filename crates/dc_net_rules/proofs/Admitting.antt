@@ -63,7 +63,7 @@ distinct_pairs [] apart = λ i j d lt within. absurd (omega arith)
 distinct_pairs (x ∷ xs) apart =
     let parts = and_parts _ _ apart in
     AllPairs-cons (λ i j. i ≢ j) x xs (λ k d low same. true≢false (sym (subst (λ (z : ℕ). is_among xs z ≡ true) (sym same) (stands xs k d low)) ∙ not-true (is_among xs x) parts.0))
-        (distinct_pairs xs parts.1)
+    (distinct_pairs xs parts.1)
 
 pairs_distinct : (p : List ℕ) → AllPairs (λ i j. i ≢ j) p → are_distinct p ≡ true
 pairs_distinct [] apart = refl

@@ -32,7 +32,7 @@ same_rest k x y same = omega arith
 added : (cu cv y known : List ℕ) (n j : ℕ) → AreSymbols cu → j + first_difference cu cv ≡ n → steered_from (first_difference cu cv) ≤ n → length known ≡ j
     → ((i : ℕ) → i < j → slice_index y i ≡ slice_index known i) →
     steered_symbol cu cv y n ≡ (sum_by (λ k. slice_index known (n - k) * difference_at cu cv k) (range_with_len 0 (16 * (n / 16))) + slice_index y j * difference_at cu cv
-        (first_difference cu cv)) % 65537
+    (first_difference cu cv)) % 65537
 added cu cv y known n j good is from count same =
     let p = first_difference cu cv in
     let reach = in_reach p n from in
@@ -59,7 +59,7 @@ same_at cu cv e x y x' y' count m good_u good_v differ s s' within before =
             same_factor (slice_index y m) (slice_index y' m) (difference_at cu cv p) (s.second.are_symbols m) (s'.second.are_symbols m)
             (some_difference (slice_index cu p) (slice_index cv p) (good_u p) (good_v p) differ) (symbol-below (slice_index cu p) (slice_index cv p))
             (same_rest (sum_by (λ k. slice_index known (m + p - k) * difference_at cu cv k) (range_with_len 0 (16 * ((m + p) / 16)))) (slice_index y m * difference_at cu cv p)
-                (slice_index y' m * difference_at cu cv p)
+            (slice_index y' m * difference_at cu cv p)
             (sym first ∙ s.wanted (m + p) from reached ∙ sym (s'.wanted (m + p) from reached) ∙ second)))
       ]
     ]
@@ -88,9 +88,11 @@ steering_is_computed cu cv e count good_u good_v good_e differ x y s =
     let z = second_changes cu cv e count in
     let s' = computed-steers cu cv e count good_u good_v good_e differ in
     let same : y ≡ z = ext_get_or 0 y z (s.second.many ∙ sym s'.second.many) (λ i lt. same_below cu cv e x y (first_changes cu z count) z count good_u good_v differ s s' count i
-        (omega (arith, s.second.many)) (omega arith)) in
-    (same, fill_by_all (first_change cu z) x count 0 s.first.many (λ k lt. left_over (slice_index x k) (gained_symbol cu y k) (s.first.are_symbols k)
-        (below (sum_by (λ i. slice_index y (k - i) * slice_index cu i) (range_with_len 0 (16 * (k / 16))))) (s.kept k lt) ∙ ap (λ w. first_change cu w k) same))
+    (omega (arith, s.second.many)) (omega arith)) in (
+      same,
+      fill_by_all (first_change cu z) x count 0 s.first.many (λ k lt. left_over (slice_index x k) (gained_symbol cu y k) (s.first.are_symbols k)
+          (below (sum_by (λ i. slice_index y (k - i) * slice_index cu i) (range_with_len 0 (16 * (k / 16))))) (s.kept k lt) ∙ ap (λ w. first_change cu w k) same),
+    )
   where
     below : (t : ℕ) → t % 65537 < 65537
     below t = omega arith

@@ -131,7 +131,7 @@ made_up a x e low is = omega arith
 -- at one difference the change of a place counts in full, at every other as the known changes say
 pub split_at : (cu cv y known : List ℕ) (n j k : ℕ) → AreSymbols cu → j + first_difference cu cv ≡ n → k ≤ n → length known ≡ j → ((i : ℕ) → i < j → slice_index y i ≡ slice_index known i) →
     slice_index y (n - k) * difference_at cu cv k ≡ slice_index known (n - k) * difference_at cu cv k + cond (nat_eq k (first_difference cu cv)) (slice_index y j * difference_at cu cv
-        (first_difference cu cv)) 0
+    (first_difference cu cv)) 0
 split_at cu cv y known n j k good is within count same =
     let p = first_difference cu cv in
     elim (cases_Bool (nat_eq k p)) [
@@ -189,7 +189,7 @@ wanted_met cu cv e count n good_u good_v good_e differ from within =
     ∙ ap (λ m. symbol_sub (slice_index e m) (steered_symbol cu cv known m) * symbol_inverse (difference_at cu cv p) % 65537) (ap (λ z. z + p) places ∙ is) in
     let some = some_difference (slice_index cu p) (slice_index cv p) (good_u p) (good_v p) differ in
     let given : change % 65537 ≡ missing = ap (λ z. z * difference_at cu cv p % 65537) quotient ∙ divided missing (difference_at cu cv p) (symbol-below (slice_index e n) (known_sum % 65537)) some
-        (symbol-below (slice_index cu p) (slice_index cv p)) in
+    (symbol-below (slice_index cu p) (slice_index cv p)) in
     ap (λ s. s % 65537) sums ∙ made_up known_sum change (slice_index e n) (good_e n) given
 
 -- every change of second pads is a symbol

@@ -12,15 +12,15 @@ use Rattle.dc_net_rules.specs.Steerings.{first_difference, first_changes, second
 abbrev pub ComputedChangesSteer : Type 0
 ComputedChangesSteer =
     (cu cv e : List ℕ) (count : ℕ) → AreSymbols cu → AreSymbols cv → AreSymbols e
-        → slice_index cu (first_difference cu cv) ≢ slice_index cv (first_difference cu cv) →
+    → slice_index cu (first_difference cu cv) ≢ slice_index cv (first_difference cu cv) →
     (let y = second_changes cu cv e count in IsSteering cu cv e count (first_changes cu y count) y)
 
 -- and they are the only steering
 abbrev pub SteeringsAreComputed : Type 0
 SteeringsAreComputed =
     (cu cv e : List ℕ) (count : ℕ) → AreSymbols cu → AreSymbols cv → AreSymbols e
-        → slice_index cu (first_difference cu cv) ≢ slice_index cv (first_difference cu cv)
-        → (x y : List ℕ) → IsSteering cu cv e count x y →
+    → slice_index cu (first_difference cu cv) ≢ slice_index cv (first_difference cu cv)
+    → (x y : List ℕ) → IsSteering cu cv e count x y →
     (y ≡ second_changes cu cv e count) × (x ≡ first_changes cu (second_changes cu cv e count) count)
 
 -- where the script delivers the sum in every round, all honest stations receive alike

@@ -105,7 +105,7 @@ IsHonest net i = IsTrue (is_among (honest_stations net) i)
 abbrev pub IsAlikeIn : Net → Round → Type 0
 IsAlikeIn net round =
     (i j : ℕ) → IsHonest net i → IsHonest net j
-        → word_of_station round.received i ≡ word_of_station round.received j
+    → word_of_station round.received i ≡ word_of_station round.received j
 
 -- and in each round
 abbrev pub IsAlike : Net → Type 0
@@ -115,7 +115,7 @@ IsAlike net = All (IsAlikeIn net) (all_rounds net)
 abbrev pub is_alike_in : Net → Round → Bool
 is_alike_in net round =
     list_all (λ i. list_all (λ j.
-        bytes_eq (word_of_station round.received i) (word_of_station round.received j)
+    bytes_eq (word_of_station round.received i) (word_of_station round.received j)
     ) (honest_stations net)) (honest_stations net)
 
 -- and in each round, as a test

@@ -11,4 +11,4 @@ use Rattle.dc_spec.specs.Frames.{Frame, hello, send}
 abbrev pub says : ℕ → ℕ → ℕ → List Pair → Stream → List (List ℕ) → List Frame
 says i n words pairs stream received =
     hello i n words ∷ map (λ t. send t (station_word stream pairs i (take t received)))
-        (range_with_len 0 (min (length received + 1) words))
+    (range_with_len 0 (min (length received + 1) words))

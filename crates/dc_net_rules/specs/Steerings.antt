@@ -27,7 +27,7 @@ difference_at cu cv k = symbol_sub (slice_index cu k) (slice_index cv k)
 abbrev pub steered_symbol : List ℕ → List ℕ → List ℕ → ℕ → ℕ
 steered_symbol cu cv y n =
     sum_by (λ k. slice_index y (n - k) * difference_at cu cv k)
-        (range_with_len 0 (16 * (n / 16))) % 65537
+    (range_with_len 0 (16 * (n / 16))) % 65537
 
 -- so many symbols
 pub record AreManySymbols (count : ℕ) (xs : List ℕ) : Type 0 where
@@ -39,7 +39,7 @@ pub record AreManySymbols (count : ℕ) (xs : List ℕ) : Type 0 where
 abbrev pub gained_symbol : List ℕ → List ℕ → ℕ → ℕ
 gained_symbol cu y n =
     sum_by (λ k. slice_index y (n - k) * slice_index cu k)
-        (range_with_len 0 (16 * (n / 16))) % 65537
+    (range_with_len 0 (16 * (n / 16))) % 65537
 
 -- Changes x of the first pads and y of the second pads steer a session of so many symbols by e.
 -- The ends of the pair received cu and cv, and p is the number of the first symbol that differs.
@@ -66,7 +66,7 @@ abbrev pub next_change : List ℕ → List ℕ → List ℕ → List ℕ → ℕ
 next_change cu cv e known =
     let p = first_difference cu cv in
     symbol_sub (slice_index e (length known + p)) (steered_symbol cu cv known (length known + p))
-        * symbol_inverse (difference_at cu cv p) % 65537
+    * symbol_inverse (difference_at cu cv p) % 65537
 
 -- the first so many changes of the second pads, in a session of so many symbols
 unfoldable pub changes_up_to : List ℕ → List ℕ → List ℕ → ℕ → ℕ → List ℕ
@@ -75,7 +75,7 @@ changes_up_to cu cv e count (suc j) =
     let known = changes_up_to cu cv e count j in
     let p = first_difference cu cv in
     known ++ (if nat_lt (j + p) (steered_from p) || nat_le count (j + p) then 0
-        else next_change cu cv e known) ∷ []
+    else next_change cu cv e known) ∷ []
 
 -- the changes of the second pads
 abbrev pub second_changes : List ℕ → List ℕ → List ℕ → ℕ → List ℕ
@@ -100,7 +100,7 @@ steered pair cu cv e count =
 abbrev pub wanted_changes : List (List ℕ) → ℕ → List (List ℕ) → List ℕ
 wanted_changes sums from wanted =
     replicate (16 * from) 0
-        ++ symbols (map (λ ws. word_sub ws.0 ws.1) (zip wanted (drop from sums)))
+    ++ symbols (map (λ ws. word_sub ws.0 ws.1) (zip wanted (drop from sums)))
 
 -- where two stations first received differently, and the changes of the pads of their pair
 pub record Steering : Type 0 where
@@ -141,5 +141,5 @@ abbrev pub steered_net : Net → ℕ → ℕ → List (List ℕ) → Net
 steered_net net u v wanted =
     let changes = steering_of net u v wanted in
     let pairs = map (λ pair. if has_ends u v pair
-        then changed_pair pair changes.first changes.second else pair) net.keys.pairs in
+    then changed_pair pair changes.first changes.second else pair) net.keys.pairs in
     record net { keys = record net.keys { pairs = pairs } }

@@ -53,7 +53,7 @@ moved net p = record net { streams = map (λ i. slice_index_or net.streams i Non
 abbrev pub demand : Net → List ℕ → ℕ → List (List ℕ) → List ℕ
 demand net p i received =
     word_sub (plain_word (station_stream net i) received)
-        (plain_word (station_stream (moved net p) i) received)
+    (plain_word (station_stream (moved net p) i) received)
 
 -- the demands of one round by station, each over the words that the station received in earlier
 -- rounds
@@ -101,7 +101,7 @@ shifts net p =
 abbrev pub shifted_pair : List Shift → Pair → Pair
 shifted_pair changes pair =
     option_map_or (λ s. record pair { a = pads_add pair.a (symbols s.words) })
-        (find (λ s. (s.u == pair.u) && (s.v == pair.v)) changes) pair
+    (find (λ s. (s.u == pair.u) && (s.v == pair.v)) changes) pair
 
 -- the twin of a net: the same graph, coalition and script, the streams permuted, the first pads of
 -- the edges of the forest shifted

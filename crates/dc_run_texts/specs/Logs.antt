@@ -29,13 +29,13 @@ pending_line shorts longs = line (codes "pending " ++ decimal shorts ++ codes " 
 abbrev pub station_text : ℕ → List Entry → List Entry → ℕ × ℕ → List ℕ
 station_text i log sent pending =
     line (codes "station " ++ decimal i) ++ flat_map log_line log ++ flat_map sent_line sent
-        ++ pending_line pending.0 pending.1
+    ++ pending_line pending.0 pending.1
 
 -- the log text of honest station i, before which there are j honest stations
 abbrev pub honest_text : Run → ℕ → ℕ → List ℕ
 honest_text run j i = station_text i
     (slice_index_or run.logs j []) (slice_index_or run.sents j [])
-        (slice_index_or run.pending j (0, 0))
+    (slice_index_or run.pending j (0, 0))
 
 -- the log texts of all honest stations, in rising order
 unfoldable pub logs_text : Net → Run → List ℕ

@@ -26,7 +26,7 @@ first_log run = slice_index_or run.logs 0 []
 abbrev pub trial_line : ℕ → ℕ → ℕ → List ℕ
 trial_line seed stations words =
     line (codes "trial " ++ decimal seed ++ codes " " ++ decimal stations ++ codes " "
-        ++ decimal words)
+    ++ decimal words)
 
 -- five lines
 unfoldable pub trial_text : ℕ → ℕ → ℕ → Run → List ℕ

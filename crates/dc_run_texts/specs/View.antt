@@ -19,7 +19,7 @@ edge_line u v = line (codes "edge " ++ decimal u ++ codes " " ++ decimal v)
 abbrev pub pad_lines : List ℕ → ℕ → ℕ → ℕ → List ℕ → List ℕ
 pad_lines beginning words u v pads =
     flat_map (λ r. pair_word_line beginning u v r (items_of_round 16 r pads))
-        (range_with_len 0 words)
+    (range_with_len 0 words)
 
 -- all first pads of a pair, then all second pads
 abbrev pub pair_lines : ℕ → Pair → List ℕ

@@ -25,13 +25,13 @@ IsBytes-piece n at b fits i =
 number_is : (b : List ℕ) (at : ℕ) → number_at b at ≡ from_be_bytes w32 (take 4 (drop at b))
 number_is b at =
     let place : (k j : ℕ) → k < 4 → at + k ≡ j → get_or (take 4 (drop at b)) k 0 ≡ get_or b j 0 = λ k j lt is. get_or-take 4 (drop at b) k 0 lt ∙ get_or-drop at b k 0
-        ∙ ap (λ (i : ℕ). get_or b i 0) is in
+    ∙ ap (λ (i : ℕ). get_or b i 0) is in
     omega (arith, place 0 at (omega arith) (omega arith), place 1 (at + 1) (omega arith) (omega arith), place 2 (at + 2) (omega arith) (omega arith), place 3 (at + 3) (omega arith) (omega arith))
 
 short_is : (b : List ℕ) (at : ℕ) → short_at b at ≡ from_be_bytes w16 (take 2 (drop at b))
 short_is b at =
     let place : (k j : ℕ) → k < 2 → at + k ≡ j → get_or (take 2 (drop at b)) k 0 ≡ get_or b j 0 = λ k j lt is. get_or-take 2 (drop at b) k 0 lt ∙ get_or-drop at b k 0
-        ∙ ap (λ (i : ℕ). get_or b i 0) is in
+    ∙ ap (λ (i : ℕ). get_or b i 0) is in
     omega (arith, place 0 at (omega arith) (omega arith), place 1 (at + 1) (omega arith) (omega arith))
 
 pub number_spelled : (b : List ℕ) (at : ℕ) → IsBytes b → at + 4 ≤ length b → symbol_bytes (number_at b at) ≡ take 4 (drop at b)
@@ -67,7 +67,7 @@ piece_of g size (x ∷ xs) wide zero d lt = let none : size * 0 ≡ 0 = omega ar
 piece_of g size (x ∷ xs) wide (suc i) d lt =
     let at : size * suc i ≡ size + size * i = omega arith in
     rw (at, ← drop-drop (size * i) size (g x ++ flat_map g xs), drop_at (g x) (flat_map g xs) size (wide 0 x (omega arith))) (piece_of g size xs (λ k d' below. wide (suc k) d' (omega arith)) i d
-        (omega arith))
+    (omega arith))
 
 pub length_of_pieces : {X : Type 0} (g : X → List ℕ) (size : ℕ) (xs : List X) → ((k : ℕ) (d : X) → k < length xs → length (g (get_or xs k d)) ≡ size) → length (flat_map g xs) ≡ size * length xs
 length_of_pieces g size [] wide = omega arith

@@ -76,7 +76,7 @@ no_divisor q some low =
     let same : get_or (range_with_len 2 254) (q - 2) 0 ≡ q = omega arith in
     let count = length-range_with_len 2 254 in
     eqb-false (65537 % q) 0 (not-true (65537 % q == 0) (subst (λ (z : ℕ). not (65537 % z == 0) ≡ true) same (AllPass-from_list_all (λ z. not (65537 % z == 0)) (range_with_len 2 254) no_divisors
-        (q - 2) 0 (omega arith))))
+    (q - 2) 0 (omega arith))))
 
 -- a larger symbol x: with 65537 = q * x + r both q and r are smaller, and x * q is minus r
 larger_unit : (x q r : ℕ) → x < 65537 → q * x + r ≡ 65537 → r < x → 0 < r → unit q ≡ 1 → unit r ≡ 1 → unit x ≡ 1

@@ -13,7 +13,7 @@ symbol_read w is k lt =
     let small : get_or w k 0 < 2 ^ 32 = (let symbol : get_or w k 0 < 65537 = is.symbols k in omega arith) in
     let inside : k < length w = (let long = is.sixteen in omega arith) in
     let piece : take 4 (drop (0 + 4 * k) (word_bytes w)) ≡ symbol_bytes (get_or w k 0) =
-        ap (λ (at : ℕ). take 4 (drop at (word_bytes w))) (sym place) ∙ piece_of symbol_bytes 4 w (λ j d below. refl) k 0 inside in
+    ap (λ (at : ℕ). take 4 (drop at (word_bytes w))) (sym place) ∙ piece_of symbol_bytes 4 w (λ j d below. refl) k 0 inside in
     sym (number_again (word_bytes w) (0 + 4 * k) (get_or w k 0) small piece)
 
 -- so the word is that of its bytes

@@ -20,7 +20,7 @@ sum_by-filter f p (x ∷ xs) =
     let split = sum_by-cons (λ y. cond (p y) (f y) 0) x xs in
     let kept = sum_by-cons f x (filter p xs) in
     (elim (p x) as (λ b. sum_by (λ y. cond (p y) (f y) 0) (x ∷ xs) ≡ cond b (f x) 0 + sum_by (λ y. cond (p y) (f y) 0) xs → sum_by f (cond b (x ∷ filter p xs) (filter p xs))
-        ≡ sum_by (λ y. cond (p y) (f y) 0) (x ∷ xs)) [
+    ≡ sum_by (λ y. cond (p y) (f y) 0) (x ∷ xs)) [
       | true ↦ λ e. omega arith
       | false ↦ λ e. omega arith
     ]) split

@@ -16,7 +16,7 @@ word_bytes w = flat_map symbol_bytes w
 abbrev pub number_at : List ℕ → ℕ → ℕ
 number_at bytes at =
     ((slice_index bytes at * 256 + slice_index bytes (at + 1)) * 256
-        + slice_index bytes (at + 2)) * 256 + slice_index bytes (at + 3)
+    + slice_index bytes (at + 2)) * 256 + slice_index bytes (at + 3)
 
 -- the number that the two bytes from this place on spell
 abbrev pub short_at : List ℕ → ℕ → ℕ

@@ -65,7 +65,7 @@ group_rest whole part =
 abbrev pub unfit_limb : Group → Group → Option ℕ
 unfit_limb whole part =
     first_limb_where (λ i. nat_lt (limb whole i) (limb part i)
-        || nat_lt (255 * (whole.count - part.count)) (limb whole i - limb part i))
+    || nat_lt (255 * (whole.count - part.count)) (limb whole i - limb part i))
 
 -- the rest of a group, or the fault of the limb at this place
 abbrev pub rest_or_fault : Group → Group → Option ℕ → Result Group SplitFault

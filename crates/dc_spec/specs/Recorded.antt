@@ -35,4 +35,4 @@ superposed t = map (λ r. word_sum (round_words t r)) (range_with_len 0 t.rounds
 abbrev pub transcript_bytes : Recorded → List ℕ
 transcript_bytes t =
     codes "DCT1" ++ to_be_bytes w16 t.stations ++ to_be_bytes w16 t.rounds
-        ++ flat_map word_bytes t.words
+    ++ flat_map word_bytes t.words

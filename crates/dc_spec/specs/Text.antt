@@ -11,7 +11,7 @@ hex_digit d = if nat_lt d 10 then 48 + d else 87 + d
 abbrev pub symbol_text : ℕ → List ℕ
 symbol_text x =
     hex_digit (x / 65536 % 16) ∷ hex_digit (x / 4096 % 16) ∷ hex_digit (x / 256 % 16)
-        ∷ hex_digit (x / 16 % 16) ∷ hex_digit (x % 16) ∷ []
+    ∷ hex_digit (x / 16 % 16) ∷ hex_digit (x % 16) ∷ []
 
 -- eighty digits
 abbrev pub word_text : List ℕ → List ℕ

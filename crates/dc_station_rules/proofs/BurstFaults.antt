@@ -49,13 +49,20 @@ length-passes words (suc i) e = refl
 
 padding-passes : (words : List (List ℕ)) (i : ℕ) (b : Bool) → (word_count (nth_word words i) == 1) ≡ b → Passes words i → padding_fault words i ≡ None
 padding-passes words i false is pass = rw is
-padding-passes words i true is pass = rw (is, finds-none (λ k. not (slice_index (carried (take (i + 1) words)) k == 0)) (stated_length words + 2) (15 * (i + 1) - (stated_length words + 2))
-    (λ at lt. ap not (eq-eqb _ _ (pass.padding (eqb-true _ _ is) at lt))))
+padding-passes words i true is pass = rw (
+  is,
+  finds-none (λ k. not (slice_index (carried (take (i + 1) words)) k == 0)) (stated_length words + 2) (15 * (i + 1) - (stated_length words + 2))
+      (λ at lt. ap not (eq-eqb _ _ (pass.padding (eqb-true _ _ is) at lt))),
+)
 
 pub no-fault : (words : List (List ℕ)) (i : ℕ) → Passes words i → fault_at words i ≡ None
 unfolding fault_at
-no-fault words i pass = rw (pass.count, finds-none (λ k. nat_lt 255 (slice_index (nth_word words i) k)) 1 15 (λ l lt. le-ltb _ _ (pass.limbs l lt)), length-passes words i pass.told,
-    padding-passes words i (word_count (nth_word words i) == 1) refl pass)
+no-fault words i pass = rw (
+  pass.count,
+  finds-none (λ k. nat_lt 255 (slice_index (nth_word words i) k)) 1 15 (λ l lt. le-ltb _ _ (pass.limbs l lt)),
+  length-passes words i pass.told,
+  padding-passes words i (word_count (nth_word words i) == 1) refl pass,
+)
 
 -- a word is judged by it and the words before it
 word_at-append : (words more : List (List ℕ)) (i : ℕ) → i < length words → nth_word (words ++ more) i ≡ nth_word words i

@@ -40,7 +40,7 @@ unfolding one_word
 one-fit group is two = first_limb-fails (λ i. nat_lt (limb group i) (limb (counted (one_word group)) i) || nat_lt (255 * (group.count - 1)) (limb group i - limb (counted (one_word group)) i))
     (λ i lt. let fits = limb-fits (limb group i) group.count two (is.limbs i lt) in
     or_from _ _ (le-ltb _ _ (subst (λ x. x ≤ limb group i) (sym (limb-one group i lt)) fits.1)) (le-ltb _ _ (subst (λ x. limb group i - x ≤ 255 * (group.count - 1))
-        (sym (limb-one group i lt)) fits.2)))
+    (sym (limb-one group i lt)) fits.2)))
 
 one-Parts : (group : Group) → IsGroup group → 2 ≤ group.count → Parts group (one_word group) (counted (one_word group)) (group_rest group (counted (one_word group)))
 unfolding group_of minus one_word one_limb

@@ -50,7 +50,7 @@ bursts-fit : (bursts : List (ℕ × List (List ℕ))) → HaveRoom (flat_map bur
 bursts-fit [] = fit-none 0
 bursts-fit (b ∷ bursts) =
     subst (HaveRoom (flat_map burst_entries (b ∷ bursts))) (sym (length-append b.1 (burst_words bursts))) (fit-append (burst_entries b) (flat_map burst_entries bursts) (length b.1)
-        (length (burst_words bursts)) (burst-fit b) (bursts-fit bursts))
+    (length (burst_words bursts)) (burst-fit b) (bursts-fit bursts))
 
 -- leaves
 leaves-fit : (out : List Leaf) → HaveFifteen out → HaveRoom (map leaf_entry out) (length out)
@@ -89,7 +89,7 @@ cycles-fit : (cs : List Cycle) → HaveRoom (flat_map cycle_log cs) (length (fla
 cycles-fit [] = fit-none 0
 cycles-fit (c ∷ cs) =
     subst (HaveRoom (flat_map cycle_log (c ∷ cs))) (sym (length-append (cycle_words c) (flat_map cycle_words cs))) (fit-append (cycle_log c) (flat_map cycle_log cs) (length (cycle_words c))
-        (length (flat_map cycle_words cs)) (cycle-fit c) (cycles-fit cs))
+    (length (flat_map cycle_words cs)) (cycle-fit c) (cycles-fit cs))
 
 -- the log
 pub log-fit : (words : List (List ℕ)) → HaveRoom (log_of words) (length words)

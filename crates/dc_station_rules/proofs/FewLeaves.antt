@@ -50,7 +50,7 @@ put-few word (parts left right) next e = by_parts (put word left) (put word righ
   where
     by_parts : (a b : Option (Result Tree EpochFault)) → put word left ≡ a → put word right ≡ b → option_or (option_map (with_left right) a) (option_map (with_right left) b) ≡ Some (Ok next)
         → ((n : Tree) → put word left ≡ Some (Ok n) → groups_in n ≤ groups_in left + 1) → ((n : Tree) → put word right ≡ Some (Ok n) → groups_in n ≤ groups_in right + 1)
-            → groups_in next ≤ groups_in left + groups_in right + 1
+        → groups_in next ≤ groups_in left + groups_in right + 1
     by_parts (Some (Ok l)) b pl pr h one other = let few : groups_in l ≤ groups_in left + 1 = one l pl in subst (λ t. groups_in t ≤ groups_in left + groups_in right + 1)
         (ok-inj (some-inj h)) (omega arith)
     by_parts (Some (Err f)) b pl pr h one other = absurd (err-ok (some-inj h))

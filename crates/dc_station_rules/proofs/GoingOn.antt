@@ -47,7 +47,7 @@ low-count : (words : List (List ℕ)) → NotYet is_burst words → (i : ℕ) �
 low-count words still i lt =
     let counts : word_count (nth_word words i) + i ≡ word_count (nth_word words 0) = count-at words (open-passes words still) i lt in
     let most : word_count (nth_word words 0) ≤ 256 = leb-true (word_count (nth_word words 0)) 256 (and_parts (nat_le 1 (word_count (nth_word words 0))) (nat_le (word_count (nth_word words 0)) 256)
-        (open-passes words still 0 (omega arith)).count).1 in
+    (open-passes words still 0 (omega arith)).count).1 in
     omega arith
 
 -- so that word ends a burst
@@ -58,7 +58,7 @@ burst-ends words still = by_test (is_burst (words ++ breaking ∷ [])) refl
     by_test true e = refl
     by_test false e =
         let low : word_count (nth_word (words ++ breaking ∷ []) (length words)) ≤ 256 = low-count (words ++ breaking ∷ []) (open-still is_burst words breaking still e) (length words)
-            (omega (arith, length_push words breaking)) in
+        (omega (arith, length_push words breaking)) in
         let count : word_count (nth_word (words ++ breaking ∷ []) (length words)) ≡ 300 = ap word_count (get_or_push words breaking [] (length words) refl) in
         absurd (omega arith)
 
@@ -116,8 +116,11 @@ completed cycle (field ∷ left) fields are still = record {
   is_whole = record {
     fields = map-append (λ (b : ℕ × List (List ℕ)). b.0) cycle.bursts ((field, cycle.since ++ breaking ∷ []) ∷ broken left) ∙ ap (λ fs. burst_fields cycle.bursts ++ field ∷ fs) (broken-fields left)
         ∙ fields;
-    bursts = each-append (λ (b : ℕ × List (List ℕ)). IsBurst b.1) cycle.bursts ((field, cycle.since ++ breaking ∷ []) ∷ broken left) are (ends-now is_burst cycle.since breaking still
-        (burst-ends cycle.since still), broken-bursts left);
+    bursts = each-append (λ (b : ℕ × List (List ℕ)). IsBurst b.1) cycle.bursts ((field, cycle.since ++ breaking ∷ []) ∷ broken left) are (
+      ends-now is_burst cycle.since breaking still
+          (burst-ends cycle.since still),
+      broken-bursts left,
+    );
     epoch = ends-now is_epoch [] breaking (nothing-open []) (epoch-ends []);
   };
   next = breaking;
@@ -136,9 +139,11 @@ nothing-more first whole rest is_first is_whole same =
     let after = cycles_in_one_way rest in
     let one = cycles_in_one_way (cycle_words whole) in
     let alone : record { whole = whole ∷ []; begun = None } ≡ history_of (cycle_words whole) = one.only (record { whole = whole ∷ []; begun = None }) (record { whole = (is_whole, tt); begun = tt })
-        (append-nil (cycle_words whole)) in
-    let joined : record { whole = first ∷ (history_of rest).whole; begun = (history_of rest).begun } ≡ history_of (cycle_words whole) = one.only (record { whole = first ∷ (history_of rest).whole;
-        begun = (history_of rest).begun }) (record { whole = (is_first, after.is_history.whole); begun = after.is_history.begun }) (ap (λ ws. cycle_words first ++ ws) after.spells ∙ sym same) in
+    (append-nil (cycle_words whole)) in
+    let joined : record { whole = first ∷ (history_of rest).whole; begun = (history_of rest).begun } ≡ history_of (cycle_words whole) = one.only (record {
+      whole = first ∷ (history_of rest).whole;
+      begun = (history_of rest).begun;
+    }) (record { whole = (is_first, after.is_history.whole); begun = after.is_history.begun }) (ap (λ ws. cycle_words first ++ ws) after.spells ∙ sym same) in
     sym after.spells ∙ ap (λ (h : History). flat_map cycle_words (drop 1 h.whole ++ option_to_list h.begun)) (joined ∙ sym alone)
 
 -- and each proper prefix, of one word or more, is the words of a begun one

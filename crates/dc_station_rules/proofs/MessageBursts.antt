@@ -62,7 +62,7 @@ fragment-passes message is i lt = record {
       let next : 1 + l ≡ l + 1 = omega arith in
       let byte : get_or (burst_bytes message) (15 * i + l) 0 < 256 = burst-byte message is (15 * i + l) in
       let same : slice_index (nth_word (fragments message) i) (l + 1) ≡ get_or (burst_bytes message) (15 * i + l) 0 = ap (λ w. slice_index w (l + 1)) (word_at-fragments message i lt)
-          ∙ fragment-limb message i l few in
+      ∙ fragment-limb message i l few in
       rw (next, same) (omega arith);
   told = fragment-told message is i lt;
   padding = λ one at few.
@@ -182,7 +182,7 @@ whole-size words is =
     let last : word_count (nth_word words (length words - 1)) ≡ 1 = is.last in
     let same : word_count (nth_word words 0) ≡ length words = omega arith in
     let most : word_count (nth_word words 0) ≤ 256 = leb-true (word_count (nth_word words 0)) 256 (and_parts (nat_le 1 (word_count (nth_word words 0))) (nat_le (word_count (nth_word words 0)) 256)
-        (is.each 0 some).count).1 in
+    (is.each 0 some).count).1 in
     (same, omega arith, (is.each 0 some).told ∙ same)
 
 -- no words go on

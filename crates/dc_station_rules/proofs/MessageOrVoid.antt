@@ -33,7 +33,7 @@ before-clean before word next more message is i lt =
 void-ends : (words : List (List ℕ)) (fault : BurstFault) → IsVoidBurst words fault → IsBurst words × (burst_of words ≡ void_burst fault)
 void-ends words fault void =
     let same : burst_of words ≡ void_burst fault = ap burst_of void.is ∙ broken-burst void.before void.word fault (before-clean void.before void.word void.next void.more void.message void.is_part)
-        (ap (λ ws. fault_at ws (length void.before)) (sym void.is) ∙ void.breaks) in (
+    (ap (λ ws. fault_at ws (length void.before)) (sym void.is) ∙ void.breaks) in (
       record { ended = ap has_ended same; before = λ front word rest e. by_gap front (split_before void.before void.word front word rest (sym void.is ∙ e)) },
       same,
     )

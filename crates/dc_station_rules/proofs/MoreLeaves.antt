@@ -67,7 +67,7 @@ put-adds word (parts left right) next e = by_parts (put word left) (put word rig
   where
     by_parts : (a b : Option (Result Tree EpochFault)) → put word left ≡ a → put word right ≡ b → option_or (option_map (with_left right) a) (option_map (with_right left) b) ≡ Some (Ok next)
         → ((n : Tree) → put word left ≡ Some (Ok n) → Adds (come_out left) (come_out n)) → ((n : Tree) → put word right ≡ Some (Ok n) → Adds (come_out right) (come_out n))
-            → Adds (come_out (parts left right)) (come_out next)
+        → Adds (come_out (parts left right)) (come_out next)
     by_parts (Some (Ok l)) b pl pr h one other = subst (λ t. Adds (come_out (parts left right)) (come_out t)) (ok-inj (some-inj h)) (left-adds left right l (put-open word left (Ok l) pl)
         (one l pl))
     by_parts (Some (Err f)) b pl pr h one other = absurd (err-ok (some-inj h))

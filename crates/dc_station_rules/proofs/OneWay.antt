@@ -221,7 +221,7 @@ burst-push : (whole : List Cycle) (r : List ℕ) (bursts : List (ℕ × List (Li
 burst-push whole r bursts field words =
     words-push whole _
     ∙ ap (λ ws. flat_map cycle_words whole ++ r ∷ ws) (append-nil _ ∙ flat_map-append (λ (b : ℕ × List (List ℕ)). b.1) bursts ((field, words) ∷ []) ∙ ap (λ ws. burst_words bursts ++ ws)
-        (append-nil words))
+    (append-nil words))
     ∙ sym (words-push whole _)
 
 -- the step, where the next history is known
@@ -237,11 +237,17 @@ step_begun whole r bursts since word left wholes fields are open_still false e =
     (goes_on whole r bursts since word left (left_over bursts (granted r) left fields) e)
     (record { whole = wholes; begun = record { left = left; fields = fields; bursts = are; since = open-still (is_all_of_next left) since word open_still e } })
     (since-push whole r bursts since word)
-step_begun whole r bursts since word [] wholes fields are open_still true e = stepped (begun whole r bursts since) (done (whole ++ record { reservation = r; bursts = bursts; since = since ++ word
-    ∷ [] } ∷ [])) word
+step_begun whole r bursts since word [] wholes fields are open_still true e = stepped (begun whole r bursts since) (done (whole ++ record {
+  reservation = r;
+  bursts = bursts;
+  since = since ++ word
+      ∷ [];
+} ∷ [])) word
     (ends_epoch whole r bursts since word (left_over bursts (granted r) [] fields) e)
-    (record { whole = each-push IsWholeCycle whole _ wholes (record { fields = sym (append-nil (burst_fields bursts)) ∙ fields; bursts = are; epoch = ends-now is_epoch since word open_still e });
-        begun = tt })
+    (record {
+      whole = each-push IsWholeCycle whole _ wholes (record { fields = sym (append-nil (burst_fields bursts)) ∙ fields; bursts = are; epoch = ends-now is_epoch since word open_still e });
+      begun = tt;
+    })
     (ap (flat_map cycle_words) (append-nil (whole ++ record { reservation = r; bursts = bursts; since = since ++ word ∷ [] } ∷ [])) ∙ since-push whole r bursts since word)
 step_begun whole r bursts since word (field ∷ left) wholes fields are open_still true e = stepped (begun whole r bursts since) (begun whole r (bursts ++ (field, since ++ word ∷ []) ∷ []) []) word
     (ends_burst whole r bursts since word field left (left_over bursts (granted r) (field ∷ left) fields) e)

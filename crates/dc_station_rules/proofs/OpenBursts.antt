@@ -71,7 +71,7 @@ above-one (suc (suc c)) some other = omega arith
 two-left : (words : List (List ℕ)) → NotYet is_burst words → (i : ℕ) → i < length words → 2 ≤ word_count (nth_word words i)
 two-left words still zero lt =
     let fits : 1 ≤ word_count (nth_word words 0) = leb-true 1 (word_count (nth_word words 0)) (and_parts (nat_le 1 (word_count (nth_word words 0))) (nat_le (word_count (nth_word words 0)) 256)
-        (open-passes words still zero lt).count).0 in
+    (open-passes words still zero lt).count).0 in
     let other : word_count (nth_word words 0) ≡ 1 → ⊥ = not-one words still 0 lt in
     above-one _ fits other
 two-left words still (suc i) lt =
@@ -233,7 +233,7 @@ full-Whole words more is =
     let low : word_count (nth_word words 0) ≤ 256 = is.low_first in
     let first : word_count (nth_word words 0) ≡ length words + more = is.first_is in
     let counts : word_count (nth_word (full words more) (length words + more - 1)) + (length words + more - 1) ≡ length words + more = full-count words more is (length words + more - 1)
-        (omega arith) in
+    (omega arith) in
     record { are_words = full-AreWords words more is.are_words (omega arith); each = full-passes words more is; some = omega arith; last = rw size (omega arith) }
 
 -- an open burst of some words is a proper prefix of a message burst
@@ -245,8 +245,16 @@ pub record Part (words : List (List ℕ)) : Type 0 where
 
 pub some-part : (words : List (List ℕ)) → AreWords words → NotYet is_burst words → Part words
 unfolding full countdown fragments fragment
-some-part [] are still = record { message = []; next = fragment [] 0; more = []; is_part = record { is_message = record { most = omega arith; are_bytes = λ i d lt. omega arith }; are_fragments =
-    refl } }
+some-part [] are still = record {
+  message = [];
+  next = fragment [] 0;
+  more = [];
+  is_part = record {
+    is_message = record { most = omega arith; are_bytes = λ i d lt. omega arith };
+    are_fragments =
+        refl;
+  };
+}
 some-part (word ∷ words) are still = by_more (word_count word - length (word ∷ words)) refl
   where
     low : word_count word ≤ 256

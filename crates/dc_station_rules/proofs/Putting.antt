@@ -168,7 +168,7 @@ put-parts word l r = refl
 -- the first word of several, by the part that takes it
 in-parts-by : (l r after next : Tree) (word : List ℕ) (words : List (List ℕ)) → ((l r : Tree) → Takes (parts l r) words after → InParts l r after words) → Takes next words after
     → (a b : Option (Result Tree EpochFault)) → put word l ≡ a → put word r ≡ b → option_or (option_map (with_left r) a) (option_map (with_right l) b) ≡ Some (Ok next)
-        → InParts l r after (word ∷ words)
+    → InParts l r after (word ∷ words)
 in-parts-by l r after next word words again rest (Some (Ok l1)) b pl pr e =
     let same : parts l1 r ≡ next = ok-inj (some-inj e) in
     let more = again l1 r (subst (λ t. Takes t words after) (sym same) rest) in
@@ -282,7 +282,7 @@ closes-split fuel group low high word words next after two few takes closed agai
     let sizes : length words ≡ length both.first + length both.second = ap length both.joined ∙ length-append both.first both.second in
     resolves-joined group low high word words both.first both.second after both.new_left both.new_right both.joined both.is_parts both.closed_first
     (halves two is fewer (again x low (min high (mean_of group)) both.first both.new_left (omega arith) both.takes_first both.closed_first)
-        (again r (max low (mean_of group + 1)) high both.second both.new_right (omega arith) both.takes_second both.closed_second))
+    (again r (max low (mean_of group + 1)) high both.second both.new_right (omega arith) both.takes_second both.closed_second))
 
 -- the same with the group's count in hand
 closes-by : (fuel : ℕ) (group : Group) (low high : ℕ) (words : List (List ℕ)) (after : Tree) (count : ℕ) → group.count ≡ count → length words < fuel + 1 → Takes (unsplit group low high) words after

@@ -94,7 +94,7 @@ pub reserves : (stream : Stream) (words : List (List ℕ)) (word : List ℕ) →
 unfolding with_next
 reserves stream words word none =
     let next : history_of (words ++ word ∷ []) ≡ record { whole = (history_of words).whole; begun = Some (opened word) } = history_of-push words word
-        ∙ ap (λ b. next_history (history_of words).whole b word) none in
+    ∙ ap (λ b. next_history (history_of words).whole b word) none in
     let same : cycles (history_of words) ≡ (history_of words).whole = ap (λ b. (history_of words).whole ++ option_to_list b) none ∙ append-nil _ in
     let is = begun-cycles (words ++ word ∷ []) (history_of words).whole (opened word) next in
     let no_words : epoch_words (opened word) ≡ [] = no-words (fields_left (opened word)) in
@@ -104,7 +104,7 @@ reserves stream words word none =
           ∙ sym (log-whole words same);
       sent = sent-last stream (words ++ word ∷ []) (history_of words).whole (opened word) is
           ∙ ap₂ (λ longs shorts. sent_over stream (history_of words).whole ++ (map long longs ++ map (λ value. short value 1) shorts)) (no-longs (at_cycle stream words) (opened word) refl)
-              (no-shorts (at_cycle stream words) (opened word) no_words)
+          (no-shorts (at_cycle stream words) (opened word) no_words)
           ∙ append-nil _
           ∙ sym (sent-whole stream words same);
       no_long = no-longs (at_cycle stream words) (opened word) refl;
@@ -137,7 +137,7 @@ burst_goes_on stream words word cycle field fields begun left going =
           ∙ append-nil _;
       sent = sent-more stream words (words ++ word ∷ []) whole cycle (since_then cycle after) [] was is
           (sent-long (at_cycle stream words) cycle (since_then cycle after) [] (no-shorts (at_cycle stream words) cycle none) (no-shorts (at_cycle stream words) (since_then cycle after) still) (longs
-              ∙ sym (append-nil _))) ∙ append-nil _;
+          ∙ sym (append-nil _))) ∙ append-nil _;
       same_long = longs;
       no_short = no-shorts (at_cycle stream words) (since_then cycle after) still;
     }
@@ -195,10 +195,10 @@ burst_ends stream words word cycle field fields begun left ended =
       left = fewer_left cycle.bursts (field, after) (granted cycle.reservation) fields left;
       log = log-more words (words ++ word ∷ []) whole cycle (with_ended cycle field after) (map long (option_to_list got)) was is
           (messages-log (with_ended cycle field after) still ∙ flat_map-append burst_entries cycle.bursts ((field, after) ∷ []) ∙ ap₂ (λ es more. es ++ more) (sym (messages-log cycle none))
-              (append-nil _ ∙ message-entries got));
+          (append-nil _ ∙ message-entries got));
       sent = sent-more stream words (words ++ word ∷ []) whole cycle (with_ended cycle field after) _ was is
           (sent-long (at_cycle stream words) cycle (with_ended cycle field after) _ (no-shorts (at_cycle stream words) cycle none) (no-shorts (at_cycle stream words)
-              (with_ended cycle field after) still) longs);
+          (with_ended cycle field after) still) longs);
       longs = longs;
       no_short = no-shorts (at_cycle stream words) (with_ended cycle field after) still;
     }

@@ -120,5 +120,5 @@ whole-IsMessageBurst words is = record {
         let below : i < fragment_count (length (carried_message words)) = subst (λ n. i < n) (sym needs) lt in
         let sixteen : length (nth_word words i) ≡ 16 = (is.are_words i [] lt).sixteen in
         ext_get_or 0 (nth_word words i) (fragment (carried_message words) i) (sixteen ∙ sym (length-fragment (carried_message words) i below)) (λ l few. symbol-same words is i lt l
-            (subst (λ n. l < n) sixteen few))
+        (subst (λ n. l < n) sixteen few))
         ∙ sym (word_at-fragments (carried_message words) i below)

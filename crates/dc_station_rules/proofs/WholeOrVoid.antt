@@ -186,7 +186,7 @@ void-is (b ∷ before) word next more others fault whole broken = void-later b b
 void-ends : (words : List (List ℕ)) (out : List Leaf) (fault : EpochFault) → BreaksOff words out fault → IsEpoch words × (epoch_of words ≡ void_epoch out fault)
 void-ends words out fault void =
     let same : epoch_of words ≡ void_epoch (leaves (epoch_of void.before)) fault = ap epoch_of void.is
-        ∙ void-is void.before void.word void.next void.more void.others fault void.is_part void.breaks in (
+    ∙ void-is void.before void.word void.next void.more void.others fault void.is_part void.breaks in (
       record { ended = ap is_over same; before = λ front w rest e. void-before void.before void.word void.next void.more void.others void.is_part front w rest (sym void.is ∙ e) },
       same ∙ ap (λ ls. void_epoch ls fault) (sym void.had_come_out),
     )
@@ -259,40 +259,53 @@ later-void root group front u word fault is takes broken = by_closing (close-tre
       where
         by_words : (ws : List (List ℕ)) → AreWords ws → Takes u ws c.after → IsVoidEpoch (root ∷ front ++ word ∷ []) (leaves (epoch_of (root ∷ front))) fault
         by_words [] are all = absurd (true≢false (sym (ap is_none (ap current all ∙ c.closed)) ∙ put-open word u (Err fault) broken))
-        by_words (next ∷ more) are all = record { are_words = are; breaks_off = record {
-          before = root ∷ front;
-          word = word;
-          is = refl;
-          next = next;
-          more = more;
-          others = come_out c.after;
-          is_part = record {
-            root = root;
-            group = group;
-            rest = front ++ next ∷ more;
-            begins = refl;
-            is_group = is;
-            resolves = closes-resolves (suc (length (front ++ next ∷ more))) group 0 last_number (front ++ next ∷ more) c.after (lt-suc_self _)
-                (takes-append (unsplit group 0 last_number) u c.after front (next ∷ more) takes all) c.closed;
+        by_words (next ∷ more) are all = record {
+          are_words = are;
+          breaks_off = record {
+            before = root ∷ front;
+            word = word;
+            is = refl;
+            next = next;
+            more = more;
+            others = come_out c.after;
+            is_part = record {
+              root = root;
+              group = group;
+              rest = front ++ next ∷ more;
+              begins = refl;
+              is_group = is;
+              resolves = closes-resolves (suc (length (front ++ next ∷ more))) group 0 last_number (front ++ next ∷ more) c.after (lt-suc_self _)
+                  (takes-append (unsplit group 0 last_number) u c.after front (next ∷ more) takes all) c.closed;
+            };
+            breaks = subst (λ e. Breaks e word fault) (sym there) (breaks-put word fault u broken);
+            had_come_out = refl;
           };
-          breaks = subst (λ e. Breaks e word fault) (sym there) (breaks-put word fault u broken);
-          had_come_out = refl;
-        } }
+        }
 
 -- what the outcome says of an ended epoch
 one-by : (root : List ℕ) (words : List (List ℕ)) (group : Group) → group_of root ≡ Ok group → IsEpoch (root ∷ words) → Outcome (unsplit group 0 last_number) words → OneOf (root ∷ words)
 unfolding OneOf
 one-by root words group is ended (took u takes) =
     let closed : current u ≡ None = none-is (current u) (sym (ap is_over (after-root root group words u is takes)) ∙ ended.ended) in
-    inl (come_out u, record { root = root; group = group; rest = words; begins = refl; is_group = is; resolves = closes-resolves (suc (length words)) group 0 last_number words u
-        (lt-suc_self _) takes closed })
+    inl (
+      come_out u,
+      record {
+        root = root;
+        group = group;
+        rest = words;
+        begins = refl;
+        is_group = is;
+        resolves = closes-resolves (suc (length words)) group 0 last_number words u
+            (lt-suc_self _) takes closed;
+      },
+    )
 one-by root words group is ended (closed_early u front word rest same takes none) =
     absurd (true≢false (sym (ap is_none none) ∙ open-same word u ∙ sym (ap is_over (after-root root group front u is takes)) ∙ ended.before (root ∷ front) word rest (ap (λ ws. root ∷ ws) same)))
 one-by root words group is ended (broke u front word [] fault same takes broken) =
     inr (leaves (epoch_of (root ∷ front)), fault, subst (λ ws. IsVoidEpoch (root ∷ ws) (leaves (epoch_of (root ∷ front))) fault) (sym same) (later-void root group front u word fault is takes broken))
 one-by root words group is ended (broke u front word (r ∷ rest) fault same takes broken) =
     absurd (true≢false (sym (ap is_over (void-after root group front u word [] fault is takes broken)) ∙ ended.before (root ∷ front ++ word ∷ []) r rest (ap (λ ws. root ∷ ws) (same
-        ∙ sym (append_assoc front (word ∷ []) (r ∷ rest))))))
+    ∙ sym (append_assoc front (word ∷ []) (r ∷ rest))))))
 
 -- an ended epoch is whole or void
 one-of : (words : List (List ℕ)) → IsEpoch words → OneOf words

@@ -69,7 +69,7 @@ count_fault words i =
 abbrev pub limb_fault : List ℕ → Option BurstFault
 limb_fault word =
     option_map (λ l. burst_limb l (slice_index word l))
-        (find (λ l. nat_lt 255 (slice_index word l)) (range_with_len 1 15))
+    (find (λ l. nat_lt 255 (slice_index word l)) (range_with_len 1 15))
 
 -- the fault of a first word that states a length for which the count would be another
 abbrev pub length_fault : List (List ℕ) → ℕ → Option BurstFault
@@ -96,7 +96,7 @@ padding_fault words i =
 unfoldable pub fault_at : List (List ℕ) → ℕ → Option BurstFault
 fault_at words i =
     option_or (count_fault words i) (option_or (limb_fault (nth_word words i))
-        (option_or (length_fault words i) (padding_fault words i)))
+    (option_or (length_fault words i) (padding_fault words i)))
 
 -- the faults of all words that break a check, in order, one for each such word
 unfoldable pub burst_faults : List (List ℕ) → List BurstFault

@@ -81,7 +81,7 @@ put word (unsplit group low high) =
 put word (equal_values leaf) = None
 put word (parts left right) =
     option_or (option_map (with_left right) (put word left))
-        (option_map (with_right left) (put word right))
+    (option_map (with_right left) (put word right))
 
 -- a group on its range of numbers
 pub record Ranged : Type 0 where

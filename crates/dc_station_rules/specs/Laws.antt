@@ -71,7 +71,7 @@ LeavesAreFew = (words : List (List ℕ)) → length (leaves (epoch_of words)) �
 abbrev pub MessagesFit : Type 0
 MessagesFit =
     (words : List (List ℕ)) (message : List ℕ) → IsMessageBurst words message
-        → length message + 2 ≤ 15 * length words
+    → length message + 2 ≤ 15 * length words
 
 -- one more word of an epoch adds leaves at the end and changes none of those before
 abbrev pub LeavesGrow : Type 0

@@ -43,7 +43,7 @@ abbrev pub Breaks : Epoch → List ℕ → EpochFault → Type 0
 Breaks unbegun word fault = (why : GroupFault) × (group_of word ≡ Err why) × (fault ≡ no_group why)
 Breaks (resolving tree) word fault =
     (place : Ranged) × (current tree ≡ Some place)
-        × (split_by place.group place.low place.high word ≡ Err fault)
+    × (split_by place.group place.low place.high word ≡ Err fault)
 Breaks (void_epoch out why) word fault = ⊥
 
 -- the words of a whole epoch without one or more at their end, and then the first word that breaks
@@ -70,11 +70,11 @@ pub record IsVoidEpoch (words : List (List ℕ)) (out : List Leaf) (fault : Epoc
 -- whole epoch are not of sixteen symbols
 pub record IsWholeOrVoid (words : List (List ℕ)) : Type 0 where
   pub one : IsEpoch words →
-    ((out : List Leaf) × IsWholeEpoch words out)
-        ⊎ ((out : List Leaf) × (fault : EpochFault) × IsVoidEpoch words out fault)
+      ((out : List Leaf) × IsWholeEpoch words out)
+      ⊎ ((out : List Leaf) × (fault : EpochFault) × IsVoidEpoch words out fault)
   pub whole : (out : List Leaf) → IsWholeEpoch words out →
-    IsEpoch words × (tree : Tree) × (epoch_of words ≡ resolving tree) × (come_out tree ≡ out)
+      IsEpoch words × (tree : Tree) × (epoch_of words ≡ resolving tree) × (come_out tree ≡ out)
   pub void : (out : List Leaf) (fault : EpochFault) → BreaksOff words out fault →
-    IsEpoch words × (epoch_of words ≡ void_epoch out fault)
+      IsEpoch words × (epoch_of words ≡ void_epoch out fault)
   pub not_both : (out others : List Leaf) (fault : EpochFault) → IsWholeEpoch words out
       → BreaksOff words others fault → ⊥

@@ -62,7 +62,7 @@ longs_sent stream cycle = first_long stream.longs (marked stream) cycle
 abbrev pub is_leaf_of : List ℕ → Leaf → Bool
 is_leaf_of value leaf =
     bytes_eq leaf.value value && nat_le leaf.low (number_of value)
-        && nat_le (number_of value) leaf.high
+    && nat_le (number_of value) leaf.high
 
 -- the first pending value, where a leaf of the epoch is one of it
 abbrev pub first_short : List (List ℕ) → List Leaf → List (List ℕ)
