@@ -4,7 +4,7 @@ use Rattle.dc_cli.specs.Forms.{name, is_name, begun, spells, is_form, longest_be
 use Rattle.dc_cli.specs.declared.command.Command.{Command}
 use Rattle.dc_cli.specs.declared.command.Command.TheVariants.{Sum}
 
--- a command with what it was given
+-- a command with its arguments
 pub data Task : Type 0 where
   sum : List ℕ → Task
 
@@ -12,11 +12,11 @@ pub data Task : Type 0 where
 abbrev pub Spells : List (List ℕ) → Task → Type 0
 Spells words (sum file) = (words ≡ codes "sum" ∷ file ∷ []) × IsTrue (is_name file)
 
--- a command as it was read
+-- the command that was read
 abbrev pub task_of : Command → Task
 task_of (Sum file) = sum file.now
 
--- the words were read as the command that they spell, or are no form
+-- the words were read as the command that they spell, or are not a form
 abbrev pub ReadsAs : List (List ℕ) → Result Command ℕ → Type 0
 ReadsAs words (Ok command) = Spells words (task_of command)
 ReadsAs words (Err place) = (is_form words ≡ false) × (place ≡ longest_begun words)

@@ -25,7 +25,7 @@ transcript_fault_text (Rest at) = numbered (codes "rest at=") at
 abbrev pub file_fault_text : FileFault → List ℕ
 file_fault_text (Transcript fault) = transcript_fault_text fault
 
--- what is outcome_text of each outcome
+-- the text of each outcome
 abbrev pub outcome_text : Outcome → List ℕ
 outcome_text Done = []
 outcome_text (Usage place) = numbered (codes "usage: word ") place

@@ -29,20 +29,20 @@ abbrev pub call : {F K A : Type 0} → (F → ShelfState) → (K → SinkState) 
 call shelf_state sink_state words shelf shelf' out out' outcome =
     record { words = texts words; shelf = shelf_state shelf; shelf' = shelf_state shelf'; out = sink_state out; out' = sink_state out'; outcome = outcome }
 
--- the files that a command asks for, in order; by what the shelf tells, since a file may name others
+-- the files that a command asks for, in order; by the shelf's state, since a file may name others
 abbrev pub AsksFor : ShelfState → Task → List (List ℕ) → Type 0
 AsksFor shelf (sum file) files = files ≡ file ∷ []
 
--- words that are no form are refused, and no others are
+-- words that are not a form are refused, and no others are
 pub record RefusesOtherWords (c : Call) : Type 0 where
   pub refused : is_form c.words ≡ false → c.outcome ≡ Usage (longest_begun c.words)
   pub only : (place : ℕ) → c.outcome ≡ Usage place → is_form c.words ≡ false
 
--- what a command leaves of what each name holds: all
+-- the files that a command leaves: all, as they were
 abbrev pub Leaves : Task → ShelfState → ShelfState → Type 0
 Leaves (sum file) before after = after.holds ≡ before.holds
 
--- what each name holds stays, but for what the command of the words writes
+-- each file stays, unless the command of the words writes it
 pub record KeepsFiles (c : Call) : Type 0 where
   pub by : (command : Task) → Spells c.words command → Leaves command c.shelf c.shelf'
   pub none : is_form c.words ≡ false → c.shelf'.holds ≡ c.shelf.holds
@@ -65,7 +65,7 @@ pub record AsksInOrder (c : Call) : Type 0 where
 abbrev pub PrintsOnlyWhenDone : Call → Type 0
 PrintsOnlyWhenDone c = (c.outcome ≡ Done → ⊥) → (c.outcome ≡ SinkFault → ⊥) → c.out' ≡ c.out
 
--- where `sum` is done, the file is the transcript of a session, and the text of its superposed words was printed
+-- where `sum` is done and the file is known, it is the transcript of a session, and the text of its superposed words was printed
 abbrev pub PrintsSums : Call → Type 0
 PrintsSums c = c.outcome ≡ Done → (file bytes : List ℕ) → Spells c.words (sum file) → c.shelf.holds file ≡ held bytes →
     (session : Recorded) × IsRecorded session × (bytes ≡ transcript_bytes session) × (c.out'.written ≡ grown c.out.written (words_text (superposed session)))
@@ -74,33 +74,33 @@ PrintsSums c = c.outcome ≡ Done → (file bytes : List ℕ) → Spells c.words
 abbrev pub HasLimit : ShelfState → Task → List ℕ → ℕ → Type 0
 HasLimit shelf (sum file) name limit = (name ≡ file) × (limit ≡ transcript_limit)
 
--- the outcome tells a name
+-- the outcome reports a name
 abbrev pub TellsName : Outcome → List ℕ → Type 0
 TellsName outcome name = (outcome ≡ Missing name) ⊎ ((outcome ≡ TooLong name) ⊎ ((fault : FileFault) × (outcome ≡ Malformed name fault)))
 
--- a name that is told is the last one that the shelf was asked for
+-- a reported name is the last one that the shelf was asked for
 abbrev pub TellsTheLast : Call → Type 0
 TellsTheLast c = (name : List ℕ) → TellsName c.outcome name → (front : List (List ℕ)) × (c.shelf'.asked ≡ grown c.shelf.asked (front ++ name ∷ []))
 
--- a name is told as missing only where the shelf tells that it does not hold it, or tells nothing and its faults rose
+-- a name is reported as missing only where it is known to be absent, or where it is unknown and the count of faults rose
 abbrev pub MissesTheAbsent : Call → Type 0
 MissesTheAbsent c = (name : List ℕ) → c.outcome ≡ Missing name → (c.shelf.holds name ≡ absent) ⊎ FailsUntold (c.shelf.holds name) c.shelf.faults c.shelf'.faults
 
--- a name is told as too long only where it is a file of the command and holds more than its limit, or the shelf tells nothing of it and its faults rose
+-- a name is reported as too long only where it is a file of the command and is longer than its limit, or where it is unknown and the count of faults rose
 abbrev pub RefusesTheLong : Call → Type 0
 RefusesTheLong c = (command : Task) (name : List ℕ) → Spells c.words command → c.outcome ≡ TooLong name →
     (limit : ℕ) × HasLimit c.shelf command name limit × (IsHeldAbove (c.shelf.holds name) limit ⊎ FailsUntold (c.shelf.holds name) c.shelf.faults c.shelf'.faults)
 
--- a fault of a transcript is the first one of the bytes that the shelf tells of its name, which are the transcript of no session
+-- a reported fault of a transcript is the first fault of the file, where that is known; the file is the transcript of no session
 abbrev pub TellsTheFault : Call → Type 0
 TellsTheFault c = (name bytes : List ℕ) → (fault : TranscriptFault) → c.outcome ≡ Malformed name (Transcript fault) → c.shelf.holds name ≡ held bytes → Refused bytes fault
 
--- a file that is told, within its limit and no transcript is refused by its first fault, unless a fault rose or memory ran out
+-- a known file within its limit that is no transcript is refused by its first fault, unless the count of faults rose or memory ran out
 abbrev pub RefusesTheMalformed : Call → Type 0
 RefusesTheMalformed c = (file bytes : List ℕ) → (fault : TranscriptFault) → Spells c.words (sum file) → c.shelf.holds file ≡ held bytes → length bytes ≤ transcript_limit → transcript_of bytes ≡ Err fault →
     (Rose c.shelf.faults c.shelf'.faults → ⊥) → (c.outcome ≡ Malformed file (Transcript fault)) ⊎ (c.outcome ≡ NoMemory)
 
--- a fault of the outside is told only where its count rose
+-- a fault of the outside is reported only where its count rose
 pub record HasCauses (c : Call) : Type 0 where
   pub shelf : c.outcome ≡ ShelfFault → Rose c.shelf.faults c.shelf'.faults
   pub sink : c.outcome ≡ SinkFault → Rose c.out.faults c.out'.faults

@@ -1,4 +1,4 @@
--- What a call did, by its outcome: the words were no form and nothing was touched, or they spell a command and it ran.
+-- What a call did, by its outcome: the words are not a form and nothing changed, or they spell a command and it ran.
 use Rattle.std.specs.Prelude.{ℕ, ◌≡◌, List, false, Result}
 use Rattle.dc_spec.specs.Outside.{ShelfState, SinkState}
 use Rattle.dc_edge.specs.Sink.{Puts}
@@ -10,7 +10,7 @@ use Rattle.dc_cli.specs.Summing.{SumRan}
 use Rattle.dc_cli.specs.declared.outcome.Outcome.{Outcome}
 use Rattle.dc_cli.specs.declared.outcome.Outcome.TheVariants.{Usage}
 
--- the words are no form, and nothing was touched
+-- the words are not a form, and nothing changed
 pub record RefusedWords (words : List (List ℕ)) (place : ℕ) (shelf shelf' : ShelfState) (out out' : SinkState) : Type 0 where
   pub no_form : is_form words ≡ false
   pub place_is : place ≡ longest_begun words

@@ -6,11 +6,11 @@ use Rattle.dc_edge.specs.declared.fault.ShelfFault.TheVariants as faults
 use Rattle.dc_cli.specs.declared.outcome.Outcome.{Outcome}
 use Rattle.dc_cli.specs.declared.outcome.Outcome.TheVariants.{Done, Usage, Missing, TooLong, Malformed, ShelfFault, SinkFault, NoMemory}
 
--- for want of memory the name was not asked for, and nothing changed
+-- memory ran out before the name was asked for, and nothing changed
 abbrev pub Unasked : ShelfState → ShelfState → Type 0
 Unasked before after = (after.holds ≡ before.holds) × (after.asked ≡ before.asked) × (after.faults ≡ before.faults)
 
--- the bytes of a name, or the outcome that the shelf's answer is
+-- the bytes of a file, or the outcome for the shelf's answer
 abbrev pub ReadsFile : List ℕ → ℕ → ShelfState → ShelfState → Result (List ℕ) Outcome → Type 0
 ReadsFile file limit before after (Ok bytes) = Reads file limit before after (Ok bytes)
 ReadsFile file limit before after (Err (Missing name)) = (name ≡ file) × Reads file limit before after (Err faults.Missing)

@@ -4,14 +4,14 @@ ghost use Rattle.std.specs.Prelude.{◌≡◌};
 ghost use Rattle.dc_cli.specs.Forms.{texts, is_name as name_test};
 ghost use Rattle.dc_cli.specs.Commands.{ReadsAs, ReadsAsFile};
 
-/// A command with what it was given.
+/// A command with its arguments.
 #[derive(Clone, Copy)]
 pub enum Command<'a> {
     /// Prints the superposed words of a transcript.
     Sum { file: &'a str },
 }
 
-/// The command that the words spell, or the length of their longest beginning that begins a form.
+/// The command that the words spell, or how many words from the front begin a valid command line, at most.
 pub fn command_of(words: &[String]) -> Result<Command<'_>, u32>
     ensures { ReadsAs (texts words.now) result }
 {

@@ -6,7 +6,7 @@ ghost use Rattle.dc_cli.specs.Outcomes.{status_of};
 use dc_field::Text;
 use dc_superpose::TranscriptFault;
 
-/// Why the bytes of a file are not what the command reads.
+/// Why a file does not have the format that the command reads.
 #[derive(Debug, Drop)]
 pub enum FileFault {
     /// They are no transcript.
@@ -18,13 +18,13 @@ pub enum FileFault {
 pub enum Outcome {
     /// All was done and written. Status 0.
     Done,
-    /// The words are no form; `place` is the length of the longest beginning of them that begins a form. Status 2.
+    /// The words are not a valid command line. `place` is how many words from the front begin one, at most. Status 2.
     Usage { place: u32 },
-    /// The shelf does not hold the name. Status 3.
+    /// There is no file of the name. Status 3.
     Missing { name: Text },
-    /// The name holds more bytes than its limit. Status 4.
+    /// The file has more bytes than its limit. Status 4.
     TooLong { name: Text },
-    /// The bytes of the name are not of its format. Status 5.
+    /// The file does not have its format. Status 5.
     Malformed { name: Text, fault: FileFault },
     /// The shelf failed. Status 8.
     ShelfFault,

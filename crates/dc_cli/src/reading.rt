@@ -7,7 +7,8 @@ use dc_edge::{Shelf, ShelfFault};
 use dc_field::{Bytes, Text};
 use std::alloc::Global;
 
-/// The bytes of a file, at most `limit` of them, or the outcome that the shelf's answer is.
+/// The bytes of a file, at most `limit` of them, or the outcome for the shelf's answer.
+/// The name is copied first, so that nothing was asked for where memory runs out here.
 pub fn read_file<F: Shelf>(
     alloc: Global,
     shelf: &mut F,

@@ -36,11 +36,13 @@ round_of b n t r lt =
 
 -- the sums of all rounds are the superposed words
 pub all_rounds : (b : List ℕ) (n t : ℕ) → map (λ r. word_sum (words_from b (r * n) n)) (range_with_len 0 t) ≡ superposed (record { stations = n; rounds = t; words = words_at b (t * n) })
-all_rounds b n t = fill_by_all (λ r. word_sum (take n (drop (r * n) (words_at b (t * n))))) (map (λ r. word_sum (words_from b (r * n) n)) (range_with_len 0 t)) t [] (length-map-range_with_len (λ r. word_sum (words_from b (r * n) n)) 0 t)
+all_rounds b n t = fill_by_all (λ r. word_sum (take n (drop (r * n) (words_at b (t * n))))) (map (λ r. word_sum (words_from b (r * n) n)) (range_with_len 0 t)) t []
+    (length-map-range_with_len (λ r. word_sum (words_from b (r * n) n)) 0 t)
     (λ k lt. get_or-map-range_with_len (λ r. word_sum (words_from b (r * n) n)) 0 t k k [] lt (omega arith) ∙ ap word_sum (sym (round_of b n t k lt)))
 
 -- the sums of one round more
-pub one_round_more : (b : List ℕ) (n r : ℕ) (sums new round : List (List ℕ)) (sum : List ℕ) → sums ≡ map (λ r. word_sum (words_from b (r * n) n)) (range_with_len 0 r) → round ≡ words_from b (r * n) n → sum ≡ word_sum round → new ≡ sums ++ sum ∷ []
+pub one_round_more : (b : List ℕ) (n r : ℕ) (sums new round : List (List ℕ)) (sum : List ℕ) → sums ≡ map (λ r. word_sum (words_from b (r * n) n)) (range_with_len 0 r)
+    → round ≡ words_from b (r * n) n → sum ≡ word_sum round → new ≡ sums ++ sum ∷ []
     → new ≡ map (λ r. word_sum (words_from b (r * n) n)) (range_with_len 0 (r + 1))
 one_round_more b n r sums new round sum so_far here is pushed =
     pushed ∙ rw (so_far, is, here) (sym (map-range_with_len_more (λ r. word_sum (words_from b (r * n) n)) 0 r r (omega arith)))

@@ -43,7 +43,8 @@ unfolding transcript_of sized body_of words_of word_of
 no_bytes = refl
 
 -- the symbol is told before the length of the rest
-symbol_before_rest : transcript_of (codes "DCT1" ++ (0 ∷ 1 ∷ 0 ∷ 1 ∷ []) ++ times 13 (0 ∷ 0 ∷ 0 ∷ 0 ∷ []) ++ times 1 (255 ∷ 255 ∷ 255 ∷ 255 ∷ []) ++ times 5 (0 ∷ 0 ∷ 0 ∷ 0 ∷ [])) ≡ Err (Symbol 60 4294967295)
+symbol_before_rest : transcript_of (codes "DCT1" ++ (0 ∷ 1 ∷ 0 ∷ 1 ∷ []) ++ times 13 (0 ∷ 0 ∷ 0 ∷ 0 ∷ []) ++ times 1 (255 ∷ 255 ∷ 255 ∷ 255 ∷ []) ++ times 5 (0 ∷ 0 ∷ 0 ∷ 0 ∷ [])) ≡ Err
+    (Symbol 60 4294967295)
 unfolding transcript_of sized body_of words_of word_of
 symbol_before_rest = refl
 

@@ -61,7 +61,8 @@ length-transcript_bytes t is =
 
 word_stands : (t : Recorded) → IsRecorded t → (i : ℕ) → i < length t.words → word_at (transcript_bytes t) (8 + 64 * i) ≡ get_or t.words i []
 word_stands t is i lt =
-    let piece : take 64 (drop (8 + 64 * i) (transcript_bytes t)) ≡ word_bytes (get_or t.words i []) = rw (← drop-drop (64 * i) 8 (transcript_bytes t), drop_at (header_bytes t) (flat_map word_bytes t.words) 8 refl) (piece_of word_bytes 64 t.words (wide_words t is) i [] lt) in
+    let piece : take 64 (drop (8 + 64 * i) (transcript_bytes t)) ≡ word_bytes (get_or t.words i []) = rw
+        (← drop-drop (64 * i) 8 (transcript_bytes t), drop_at (header_bytes t) (flat_map word_bytes t.words) 8 refl) (piece_of word_bytes 64 t.words (wide_words t is) i [] lt) in
     sym (word_in_piece (transcript_bytes t) (8 + 64 * i)) ∙ ap (λ (p : List ℕ). word_at p 0) piece ∙ word_again (get_or t.words i []) (is.are_words i [] lt)
 
 words_stand : (t : Recorded) → IsRecorded t → words_at (transcript_bytes t) (t.rounds * t.stations) ≡ t.words
@@ -85,7 +86,8 @@ unfolding body_of
 body_again t is =
     let long = length-transcript_bytes t is in
     let not_short : ltb (length (transcript_bytes t)) (due_length (t.rounds * t.stations)) ≡ false = le-ltb _ _ (omega arith) in
-    let read : words_of (transcript_bytes t) (t.rounds * t.stations) ≡ Ok t.words = words_are_read (transcript_bytes t) (t.rounds * t.stations) (symbols_stand t is) ∙ ap (λ (ws : List (List ℕ)). Ok ws) (words_stand t is) in
+    let read : words_of (transcript_bytes t) (t.rounds * t.stations) ≡ Ok t.words = words_are_read (transcript_bytes t) (t.rounds * t.stations) (symbols_stand t is)
+        ∙ ap (λ (ws : List (List ℕ)). Ok ws) (words_stand t is) in
     let not_long : ltb (due_length (t.rounds * t.stations)) (length (transcript_bytes t)) ≡ false = le-ltb _ _ (omega arith) in
     rw (not_short, read, not_long) refl
 
@@ -93,7 +95,8 @@ sized_again : (b : List ℕ) (stations rounds : ℕ) → 1 ≤ stations → stat
 unfolding sized
 sized_again b stations rounds some most some' most' = rw (within stations 256 some most, within rounds 4096 some' most') refl
 
-header_again : (b : List ℕ) (stations rounds : ℕ) → 8 ≤ length b → not (starts_with eqb b (codes "DCT1")) ≡ false → short_at b 4 ≡ stations → short_at b 6 ≡ rounds → transcript_of b ≡ sized b stations rounds
+header_again : (b : List ℕ) (stations rounds : ℕ) → 8 ≤ length b → not (starts_with eqb b (codes "DCT1")) ≡ false → short_at b 4 ≡ stations → short_at b 6 ≡ rounds
+    → transcript_of b ≡ sized b stations rounds
 unfolding transcript_of
 header_again b stations rounds long magic first second = let not_short : ltb (length b) 8 ≡ false = le-ltb _ _ long in rw (not_short, magic, first, second) refl
 
@@ -129,14 +132,17 @@ three a b c x y z p q r = append_assoc a b c ∙ cc
 -- the first eight bytes
 header_spelled : (b : List ℕ) → IsBytes b → 8 ≤ length b → codes "DCT1" ≡ take 4 b → codes "DCT1" ++ to_be_bytes w16 (short_at b 4) ++ to_be_bytes w16 (short_at b 6) ≡ take 8 b
 header_spelled b fits long magic =
-    let parts : take 8 b ≡ take 4 b ++ (take 2 (drop 4 b) ++ take 2 (drop 6 b)) = take-add 4 4 b ∙ ap (λ (xs : List ℕ). take 4 b ++ xs) (take-add 2 2 (drop 4 b) ∙ ap (λ (xs : List ℕ). take 2 (drop 4 b) ++ take 2 xs) (drop-drop 2 4 b)) in
-    three (codes "DCT1") (to_be_bytes w16 (short_at b 4)) (to_be_bytes w16 (short_at b 6)) (take 4 b) (take 2 (drop 4 b)) (take 2 (drop 6 b)) magic (short_spelled b 4 fits (omega arith)) (short_spelled b 6 fits (omega arith)) ∙ sym parts
+    let parts : take 8 b ≡ take 4 b ++ (take 2 (drop 4 b) ++ take 2 (drop 6 b)) = take-add 4 4 b
+        ∙ ap (λ (xs : List ℕ). take 4 b ++ xs) (take-add 2 2 (drop 4 b) ∙ ap (λ (xs : List ℕ). take 2 (drop 4 b) ++ take 2 xs) (drop-drop 2 4 b)) in
+    three (codes "DCT1") (to_be_bytes w16 (short_at b 4)) (to_be_bytes w16 (short_at b 6)) (take 4 b) (take 2 (drop 4 b)) (take 2 (drop 6 b)) magic
+        (short_spelled b 4 fits (omega arith)) (short_spelled b 6 fits (omega arith)) ∙ sym parts
 
 -- the bytes after them
 body_spelled : (b : List ℕ) (count : ℕ) → IsBytes b → length b ≡ due_length count → flat_map word_bytes (words_at b count) ≡ drop 8 b
 body_spelled b count fits whole = words_spelled b count fits (omega arith) ∙ take_all (64 * count) (drop 8 b) (omega (arith, length-drop 8 b))
 
-file_spelled : (b : List ℕ) (t : Recorded) → IsBytes b → codes "DCT1" ≡ take 4 b → short_at b 4 ≡ t.stations → short_at b 6 ≡ t.rounds → t.words ≡ words_at b (t.rounds * t.stations) → length b ≡ due_length (t.rounds * t.stations) → b ≡ transcript_bytes t
+file_spelled : (b : List ℕ) (t : Recorded) → IsBytes b → codes "DCT1" ≡ take 4 b → short_at b 4 ≡ t.stations → short_at b 6 ≡ t.rounds → t.words ≡ words_at b (t.rounds * t.stations)
+    → length b ≡ due_length (t.rounds * t.stations) → b ≡ transcript_bytes t
 file_spelled b t fits magic stations rounds words whole =
     let header : header_bytes t ≡ take 8 b = rw (← stations, ← rounds) (header_spelled b fits (omega arith) magic) in
     let body : flat_map word_bytes t.words ≡ drop 8 b = ap (λ (ws : List (List ℕ)). flat_map word_bytes ws) words ∙ body_spelled b (t.rounds * t.stations) fits whole in

@@ -87,9 +87,11 @@ length-symbols_at b count = length-map-range_with_len (λ s. number_at b (symbol
 pub words_are_read : (b : List ℕ) (count : ℕ) → FirstAreSymbols b (16 * count) → words_of b count ≡ Ok (words_at b count)
 unfolding words_of
 words_are_read b count good =
-    rw (none_where_small (symbols_at b (16 * count)) (λ k lt. let lt' : k < 16 * count = omega (arith, length-symbols_at b (16 * count)) in rw (symbol-symbols_at b (16 * count) k lt') (good.small k lt'))) refl
+    rw (none_where_small (symbols_at b (16 * count)) (λ k lt. let lt' : k < 16 * count = omega (arith, length-symbols_at b (16 * count)) in rw (symbol-symbols_at b (16 * count) k lt')
+        (good.small k lt'))) refl
 
-pub first_is_told : (b : List ℕ) (count i l seen : ℕ) → i < count → l < 16 → number_at b (8 + 64 * i + 4 * l) ≡ seen → 65536 < seen → FirstAreSymbols b (16 * i) → ((k : ℕ) → k < l → number_at b (8 + 64 * i + 4 * k) ≤ 65536)
+pub first_is_told : (b : List ℕ) (count i l seen : ℕ) → i < count → l < 16 → number_at b (8 + 64 * i + 4 * l) ≡ seen → 65536 < seen → FirstAreSymbols b (16 * i)
+    → ((k : ℕ) → k < l → number_at b (8 + 64 * i + 4 * k) ≤ 65536)
     → words_of b count ≡ Err (Symbol (8 + 64 * i + 4 * l) seen)
 unfolding words_of
 first_is_told b count i l seen lt small is large good here =

@@ -13,15 +13,15 @@ use crate::transcript::Transcript;
 use dc_field::{Refusal, Word, Words, read_word};
 use std::alloc::Global;
 
-/// The session that a file holds. Memory is taken only once the file is as long as its header
-/// says.
+/// The session of a file. Memory is taken only where the file is as long as its header says.
 pub fn read_transcript(alloc: Global, b: &[u8]) -> Result<Transcript, Refusal<TranscriptFault>>
     // What is read, or the first fault by the order of the tests.
     ensures exact { Answers result (transcript_of b.now) }
-    // What is read is spelled so.
+    // The bytes are the spelling of what is read.
     ensures found { IfOk result (λ t. IsRecorded t × (b.now ≡ transcript_bytes t)) }
-    // What is spelled so is read.
-    ensures only { (t : Recorded) → IsRecorded t → b.now ≡ transcript_bytes t → Answers result (Ok t) }
+    // The spelling of a session is read as that session.
+    ensures only { (t : Recorded) → IsRecorded t → b.now ≡ transcript_bytes t
+        → Answers result (Ok t) }
 {
     read_in_order(alloc, b)
 }

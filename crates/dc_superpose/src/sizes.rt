@@ -1,4 +1,4 @@
-//! How large a recorded session is, by the header and the length of its file.
+//! The sizes of a recorded session, by the header and the length of its file.
 
 ghost use Rattle.std.specs.Prelude.{◌≡◌, ◌*◌, ◌≤◌, IfOk};
 ghost use Rattle.dc_spec.specs.Limits.{most_stations, most_words};
@@ -19,7 +19,7 @@ pub struct Sizes {
     pub due: usize,
 }
 
-/// The sizes of the session that a file holds, where its first eight bytes and its length pass their tests.
+/// The sizes of the session of a file, where its first eight bytes and its length pass their tests.
 #[tactic(auto, unfolding(crate::specs::Reading::transcript_of))]
 pub fn read_sizes(b: &[u8]) -> Result<Sizes, TranscriptFault>
     ensures rest { session_of_sizes b.now result ≡ transcript_of b.now }

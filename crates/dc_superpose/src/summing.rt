@@ -12,13 +12,13 @@ use crate::sizes::{Sizes, read_sizes};
 use dc_field::{Refusal, Word, Words};
 use std::alloc::Global;
 
-/// The superposed words of the session that a file holds: `sums` of what `read_transcript` reads, with room for the
-/// words of one round at a time.
+/// The superposed words of a file: `sums` of what `read_transcript` reads, with room for the words of one round at a time.
 pub fn read_sums(alloc: Global, b: &[u8]) -> Result<Words, Refusal<TranscriptFault>>
-    // The superposed words of the session that is spelled so, or the first fault by the order of the tests.
+    // The superposed words of the session that the bytes spell, or the first fault by the order of the tests.
     ensures sums { GivesSums b.now result }
-    // Of what is spelled so the superposed words are had.
-    ensures only { (t : Recorded) → IsRecorded t → b.now ≡ transcript_bytes t → Answers result (Ok (superposed t)) }
+    // The spelling of a session gives its superposed words.
+    ensures only { (t : Recorded) → IsRecorded t → b.now ≡ transcript_bytes t
+        → Answers result (Ok (superposed t)) }
 {
     sum_in_order(alloc, b)
 }

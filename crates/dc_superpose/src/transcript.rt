@@ -23,5 +23,6 @@ impl Model for Transcript {
 
     ghost view = { λ t. record { stations = t.stations; rounds = t.rounds; words = t.words } };
 
-    ghost invariant = { λ t. IsRecorded (record { stations = t.stations; rounds = t.rounds; words = t.words }) };
+    ghost invariant = { λ t.
+        IsRecorded (record { stations = t.stations; rounds = t.rounds; words = t.words }) };
 }

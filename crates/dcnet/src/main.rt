@@ -3,7 +3,7 @@
 
 ghost use Rattle.std.specs.Prelude.{◌≡◌};
 ghost use Rattle.std.specs.IoError.{error_kind};
-ghost use Rattle.dcnet.specs.Untold.{untold_outcome};
+ghost use Rattle.dcnet.specs.WithoutWords.{outcome_without_words};
 
 use dc_cli::{Outcome, dcnet, put_fault, status};
 use dc_edge::{DirShelf, OpenGate, StdSink};
@@ -31,7 +31,7 @@ fn main(rt: HostRuntime) -> ExitCode {
             )
         }
         Err(error) => {
-            let outcome = untold(error);
+            let outcome = without_words(error);
             let _ = put_fault(&outcome, &mut err);
             outcome
         }
@@ -48,9 +48,9 @@ fn arguments(rt: &HostRuntime) -> io::Result<Vec<String>> {
     Ok(words)
 }
 
-/// The outcome of a command line that cannot be had as text: memory ran out, or a word is not UTF-8.
-fn untold(error: io::Error) -> Outcome
-    ensures { result ≡ untold_outcome (error_kind error) }
+/// The outcome of a command line that is not available as text: memory ran out, or a word is not UTF-8.
+fn without_words(error: io::Error) -> Outcome
+    ensures { result ≡ outcome_without_words (error_kind error) }
 {
     match error.kind() {
         ErrorKind::OutOfMemory => Outcome::NoMemory,

@@ -16,113 +16,135 @@ const TRANSCRIPT: &[u8; 136] = b"DCT1\0\x02\0\x01\
 const ZEROS: &[u8; 81] =
     b"00000000000000000000000000000000000000000000000000000000000000000000000000000000\n";
 
-/// How a call over objects in memory ended.
-#[derive(Drop)]
-struct Ended {
-    status: u8,
-    out: Vec<u8>,
-    err: Vec<u8>,
+/// The objects of a call: the bytes of `t.bin`, and the rooms of both sinks.
+struct Given<'a> {
+    file: &'a [u8],
+    shelf_fails: &'a [u32],
+    out_room: u32,
+    err_room: u32,
 }
 
-/// Calls `dcnet` with words, over a shelf that holds `held` as `t.bin`, and sinks of these rooms: that of output, then
-/// that of fault lines.
-fn call<R: Threads + Sync + AllocGlobal>(
+/// How a call is to end.
+struct Due<'a> {
+    status: u8,
+    out: &'a [u8],
+    err: &'a [u8],
+}
+
+/// Asserts how a call over objects in memory ends.
+fn check<R: Threads + Sync + AllocGlobal + Abort>(
     rt: &R,
     words: &[&str],
-    held: &[u8],
-    shelf_fails: &[u32],
-    rooms: (u32, u32),
-) -> Result<Ended, NoMemory> {
+    given: &Given<'_>,
+    due: &Due<'_>,
+) -> Result<(), NoMemory> {
     let alloc = rt.alloc();
-    let mut shelf = MemoryShelf::new(alloc, shelf_fails)?;
-    shelf.hold(alloc, "t.bin", held)?;
-    let mut out = MemorySink::new(alloc, rooms.0, &[])?;
-    let mut err = MemorySink::new(alloc, rooms.1, &[])?;
+    let mut shelf = MemoryShelf::new(alloc, given.shelf_fails)?;
+    shelf.hold(alloc, "t.bin", given.file)?;
+    let mut out = MemorySink::new(alloc, given.out_room, &[])?;
+    let mut err = MemorySink::new(alloc, given.err_room, &[])?;
     let mut line = Vec::new(alloc);
     for word in words {
         line.push(String::from_str(alloc, word)?)?;
     }
     let outcome = dcnet(rt, alloc, &line, &mut shelf, &mut out, &mut err, &OpenGate);
-    Ok(Ended {
-        status: status(&outcome),
-        out: out.bytes().to_vec(alloc)?,
-        err: err.bytes().to_vec(alloc)?,
-    })
+    assert_eq!(rt; status(&outcome), due.status);
+    assert_eq!(rt; out.bytes(), due.out);
+    assert_eq!(rt; err.bytes(), due.err);
+    Ok(())
 }
 
-/// Asserts how a call ends: status, printed text, fault line.
-fn ends<R: Threads + Sync + AllocGlobal + Abort>(
+/// Asserts how `sum t.bin` ends for a file.
+fn sums<R: Threads + Sync + AllocGlobal + Abort>(
     rt: &R,
-    words: &[&str],
-    held: &[u8],
-    status: u8,
-    out: &[u8],
-    err: &[u8],
+    file: &[u8],
+    due: &Due<'_>,
 ) -> Result<(), NoMemory> {
-    let ended = call(rt, words, held, &[], (1000, 1000))?;
-    assert_eq!(rt; ended.status, status);
-    assert_eq!(rt; ended.out.as_slice(), out);
-    assert_eq!(rt; ended.err.as_slice(), err);
-    Ok(())
-}
-
-/// The first bytes of the transcript, with this as the last byte of its first symbol.
-fn changed<R: AllocGlobal>(rt: &R, length: usize, first: u8) -> Result<Vec<u8>, NoMemory> {
-    let mut bytes = Vec::new(rt.alloc());
-    for (i, b) in TRANSCRIPT.iter().enumerate() {
-        if i < length {
-            bytes.push(if i == 11 { first } else { *b })?;
-        }
-    }
-    Ok(bytes)
-}
-
-#[test]
-fn the_sum_of_a_transcript_is_printed(rt: HostRuntime) -> Result<(), Fail> {
-    ends(&rt, &["sum", "t.bin"], TRANSCRIPT, 0, ZEROS, b"")?;
-    Ok(())
+    let given = Given {
+        file,
+        shelf_fails: &[],
+        out_room: 1000,
+        err_room: 1000,
+    };
+    check(rt, &["sum", "t.bin"], &given, due)
 }
 
 /// Asserts that a file is malformed, with this fault line.
 fn is_malformed<R: Threads + Sync + AllocGlobal + Abort>(
     rt: &R,
-    held: &[u8],
+    file: &[u8],
     err: &[u8],
 ) -> Result<(), NoMemory> {
-    ends(rt, &["sum", "t.bin"], held, 5, b"", err)
+    let due = Due {
+        status: 5,
+        out: b"",
+        err,
+    };
+    sums(rt, file, &due)
 }
 
-/// Asserts that words are no form, with this fault line.
-fn is_no_form<R: Threads + Sync + AllocGlobal + Abort>(
+/// Asserts how a command line ends, over a shelf and sinks that do not fail.
+fn ends<R: Threads + Sync + AllocGlobal + Abort>(
     rt: &R,
     words: &[&str],
+    status: u8,
     err: &[u8],
 ) -> Result<(), NoMemory> {
-    ends(rt, words, TRANSCRIPT, 2, b"", err)
+    let given = Given {
+        file: TRANSCRIPT,
+        shelf_fails: &[],
+        out_room: 1000,
+        err_room: 1000,
+    };
+    let due = Due {
+        status,
+        out: b"",
+        err,
+    };
+    check(rt, words, &given, &due)
+}
+
+/// The transcript with another last byte of its first symbol.
+fn changed<R: AllocGlobal>(rt: &R, byte: u8) -> Result<Vec<u8>, NoMemory> {
+    let mut file = Vec::from_slice(rt.alloc(), TRANSCRIPT.as_slice())?;
+    if 11 < file.len() {
+        file[11] = byte;
+    }
+    Ok(file)
 }
 
 #[test]
-fn a_bad_transcript_is_told_by_its_first_fault(rt: HostRuntime) -> Result<(), Fail> {
-    let bad_symbol = changed(&rt, 136, 1)?;
-    is_malformed(
-        &rt,
-        &bad_symbol,
-        b"dcnet: t.bin: malformed: symbol at=8 seen=65537\n",
-    )?;
-    let cut = changed(&rt, 135, 0)?;
-    is_malformed(
-        &rt,
-        &cut,
-        b"dcnet: t.bin: malformed: truncated at=135 need=136\n",
-    )?;
-    let mut longer = changed(&rt, 136, 0)?;
-    longer.push(7)?;
-    is_malformed(&rt, &longer, b"dcnet: t.bin: malformed: rest at=136\n")?;
+fn the_sum_of_a_transcript_is_printed(rt: HostRuntime) -> Result<(), Fail> {
+    let due = Due {
+        status: 0,
+        out: ZEROS,
+        err: b"",
+    };
+    sums(&rt, TRANSCRIPT, &due)?;
     Ok(())
 }
 
 #[test]
-fn a_bad_header_is_told_by_its_first_fault(rt: HostRuntime) -> Result<(), Fail> {
+fn first_faults_of_the_words(rt: HostRuntime) -> Result<(), Fail> {
+    is_malformed(
+        &rt,
+        &changed(&rt, 1)?,
+        b"dcnet: t.bin: malformed: symbol at=8 seen=65537\n",
+    )?;
+    let mut file = changed(&rt, 0)?;
+    file.push(7)?;
+    is_malformed(&rt, &file, b"dcnet: t.bin: malformed: rest at=136\n")?;
+    file.truncate(135);
+    is_malformed(
+        &rt,
+        &file,
+        b"dcnet: t.bin: malformed: truncated at=135 need=136\n",
+    )?;
+    Ok(())
+}
+
+#[test]
+fn first_faults_of_the_header(rt: HostRuntime) -> Result<(), Fail> {
     is_malformed(
         &rt,
         b"",
@@ -147,39 +169,49 @@ fn a_bad_header_is_told_by_its_first_fault(rt: HostRuntime) -> Result<(), Fail> 
 }
 
 #[test]
-fn words_that_are_no_form_are_told_by_their_place(rt: HostRuntime) -> Result<(), Fail> {
-    is_no_form(&rt, &[], b"dcnet: usage: word 0\n")?;
-    is_no_form(&rt, &["frob"], b"dcnet: usage: word 0\n")?;
-    is_no_form(&rt, &["--help"], b"dcnet: usage: word 0\n")?;
-    is_no_form(&rt, &["Sum", "t.bin"], b"dcnet: usage: word 0\n")?;
-    is_no_form(&rt, &["sum"], b"dcnet: usage: word 1\n")?;
-    is_no_form(&rt, &["sum", "-t"], b"dcnet: usage: word 1\n")?;
-    is_no_form(&rt, &["sum", ""], b"dcnet: usage: word 1\n")?;
-    is_no_form(&rt, &["sum", "-", "b"], b"dcnet: usage: word 1\n")?;
-    is_no_form(&rt, &["sum", "a", "b"], b"dcnet: usage: word 2\n")?;
+fn words_that_are_not_a_command_line(rt: HostRuntime) -> Result<(), Fail> {
+    ends(&rt, &[], 2, b"dcnet: usage: word 0\n")?;
+    ends(&rt, &["frob"], 2, b"dcnet: usage: word 0\n")?;
+    ends(&rt, &["--help"], 2, b"dcnet: usage: word 0\n")?;
+    ends(&rt, &["Sum", "t.bin"], 2, b"dcnet: usage: word 0\n")?;
+    ends(&rt, &["sum"], 2, b"dcnet: usage: word 1\n")?;
+    ends(&rt, &["sum", "-t"], 2, b"dcnet: usage: word 1\n")?;
+    ends(&rt, &["sum", ""], 2, b"dcnet: usage: word 1\n")?;
+    ends(&rt, &["sum", "-", "b"], 2, b"dcnet: usage: word 1\n")?;
+    ends(&rt, &["sum", "a", "b"], 2, b"dcnet: usage: word 2\n")?;
+    ends(&rt, &["sum"; 300], 2, b"dcnet: usage: word 2\n")?;
     Ok(())
 }
 
 #[test]
-fn a_fault_of_the_outside_ends_the_call(rt: HostRuntime) -> Result<(), Fail> {
-    let missing = b"dcnet: no.bin: missing\n";
-    ends(&rt, &["sum", "no.bin"], TRANSCRIPT, 3, b"", missing)?;
-    let failed = call(&rt, &["sum", "t.bin"], TRANSCRIPT, &[0], (1000, 1000))?;
-    assert_eq!(rt; failed.status, 8);
-    assert_eq!(rt; failed.out.as_slice(), b"".as_slice());
-    assert_eq!(rt; failed.err.as_slice(), b"dcnet: file fault\n".as_slice());
-    let full = call(&rt, &["sum", "t.bin"], TRANSCRIPT, &[], (10, 1000))?;
-    assert_eq!(rt; full.status, 9);
-    assert_eq!(rt; full.out.as_slice(), b"0000000000".as_slice());
-    assert_eq!(rt; full.err.as_slice(), b"dcnet: output fault\n".as_slice());
-    Ok(())
-}
-
-#[test]
-fn a_fault_of_the_sink_of_faults_changes_nothing(rt: HostRuntime) -> Result<(), Fail> {
-    let cut = call(&rt, &["sum"], TRANSCRIPT, &[], (1000, 10))?;
-    assert_eq!(rt; cut.status, 2);
-    assert_eq!(rt; cut.out.as_slice(), b"".as_slice());
-    assert_eq!(rt; cut.err.as_slice(), b"dcnet: usa".as_slice());
+fn faults_of_the_outside(rt: HostRuntime) -> Result<(), Fail> {
+    ends(&rt, &["sum", "no.bin"], 3, b"dcnet: no.bin: missing\n")?;
+    let mut given = Given {
+        file: TRANSCRIPT,
+        shelf_fails: &[0],
+        out_room: 1000,
+        err_room: 1000,
+    };
+    let failed = Due {
+        status: 8,
+        out: b"",
+        err: b"dcnet: file fault\n",
+    };
+    check(&rt, &["sum", "t.bin"], &given, &failed)?;
+    given.shelf_fails = &[];
+    given.out_room = 10;
+    let full = Due {
+        status: 9,
+        out: b"0000000000",
+        err: b"dcnet: output fault\n",
+    };
+    check(&rt, &["sum", "t.bin"], &given, &full)?;
+    given.err_room = 10;
+    let cut = Due {
+        status: 2,
+        out: b"",
+        err: b"dcnet: usa",
+    };
+    check(&rt, &["sum"], &given, &cut)?;
     Ok(())
 }

@@ -11,7 +11,8 @@ use Rattle.dc_superpose.proofs.Spelling.{transcript_read, transcript_again}
 use Rattle.dc_superpose.proofs.summing.read_sums.Goals as goal
 
 -- what the sums of what is read say of the bytes
-gives : (b : List ℕ) (read : Result Recorded TranscriptFault) (result : Result (List (List ℕ)) (Refusal TranscriptFault)) → IsBytes b → transcript_of b ≡ read → Answers result (sums_of read) → GivesSums b result
+gives : (b : List ℕ) (read : Result Recorded TranscriptFault) (result : Result (List (List ℕ)) (Refusal TranscriptFault)) → IsBytes b → transcript_of b ≡ read
+    → Answers result (sums_of read) → GivesSums b result
 gives b read (Err NoMemory) fits e due = tt
 gives b (Ok t) (Ok words) fits e due =
     let found = transcript_read b t fits e in

@@ -23,7 +23,8 @@ loop-r-init c = record { sums = c.in_ok-sums.ensures.items; len = c.in_ok-sums.e
 
 pub sum-requires : goal.sum-requires
 sum-requires c =
-    let length_is : length c.fill_words.new.words.items ≡ c.args.sizes.stations = ap length c.in-Ok.ensures.words.0 ∙ length-words_from c.args.b.now (c.loop-r.r * c.args.sizes.stations) c.args.sizes.stations in
+    let length_is : length c.fill_words.new.words.items ≡ c.args.sizes.stations = ap length c.in-Ok.ensures.words.0
+        ∙ length-words_from c.args.b.now (c.loop-r.r * c.args.sizes.stations) c.args.sizes.stations in
     omega (arith, length_is, c.requires.most_stations)
 
 pub returns-in-Err : goal.returns-in-Err
@@ -35,7 +36,8 @@ pub loop-r-preserved : goal.loop-r-preserved
 loop-r-preserved c =
     let next : c.loop-r.r * c.args.sizes.stations + c.args.sizes.stations ≡ (c.loop-r.r + 1) * c.args.sizes.stations = sym (next_round c.loop-r.r c.args.sizes.stations) in
     record {
-      sums = one_round_more c.args.b.now c.args.sizes.stations c.loop-r.r c.loop-r.sums.items _ c.fill_words.new.words.items _ c.loop-r.invariant.sums c.in-Ok.ensures.words.0 (c.sum.ensures ∙ ap word_sum c.as_slice.ensures.value) c.push_reserved.ensures.items;
+      sums = one_round_more c.args.b.now c.args.sizes.stations c.loop-r.r c.loop-r.sums.items _ c.fill_words.new.words.items _ c.loop-r.invariant.sums c.in-Ok.ensures.words.0
+          (c.sum.ensures ∙ ap word_sum c.as_slice.ensures.value) c.push_reserved.ensures.items;
       len = omega arith;
       room = omega arith;
       width = omega arith;
@@ -47,5 +49,7 @@ returns c =
     let n : ℕ = c.args.sizes.stations in
     let t : ℕ = c.args.sizes.rounds in
     let end : c.loop-r.r ≡ c.args.sizes.rounds = omega arith in
-    let good : FirstAreSymbols c.args.b.now (16 * (c.args.sizes.rounds * c.args.sizes.stations)) = subst (λ (r : ℕ). FirstAreSymbols c.args.b.now (16 * (r * c.args.sizes.stations))) end c.loop-r.invariant.good in
-    rw (c.from_vec.ensures, c.loop-r.invariant.sums, end, words_are_read c.args.b.now (c.args.sizes.rounds * c.args.sizes.stations) good, all_rounds c.args.b.now c.args.sizes.stations c.args.sizes.rounds) refl
+    let good : FirstAreSymbols c.args.b.now (16 * (c.args.sizes.rounds * c.args.sizes.stations)) = subst
+        (λ (r : ℕ). FirstAreSymbols c.args.b.now (16 * (r * c.args.sizes.stations))) end c.loop-r.invariant.good in
+    rw (c.from_vec.ensures, c.loop-r.invariant.sums, end, words_are_read c.args.b.now
+        (c.args.sizes.rounds * c.args.sizes.stations) good, all_rounds c.args.b.now c.args.sizes.stations c.args.sizes.rounds) refl

@@ -5,7 +5,8 @@ use Rattle.dc_spec.specs.Words.{word_sum}
 use Rattle.dc_superpose.proofs.superposing.sums.Goals as goal
 
 -- the sums of one round more
-one_more : (words : List (List ℕ)) (stations r n : ℕ) (sums new : List (List ℕ)) (sum : List ℕ) → n ≡ stations → sums ≡ map (λ r. word_sum (take stations (drop (r * stations) words))) (range_with_len 0 r)
+one_more : (words : List (List ℕ)) (stations r n : ℕ) (sums new : List (List ℕ)) (sum : List ℕ) → n ≡ stations
+    → sums ≡ map (λ r. word_sum (take stations (drop (r * stations) words))) (range_with_len 0 r)
     → sum ≡ word_sum (take n (drop (r * stations) words)) → new ≡ sums ++ sum ∷ [] → new ≡ map (λ r. word_sum (take stations (drop (r * stations) words))) (range_with_len 0 (r + 1))
 one_more words stations r n sums new sum width so_far here pushed =
     pushed ∙ rw (so_far, here, width) (sym (map-range_with_len_more (λ r. word_sum (take stations (drop (r * stations) words))) 0 r r (omega arith)))
