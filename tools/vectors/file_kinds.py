@@ -78,16 +78,11 @@ def key_file(data):
     return record(stations=big_endian(data, 4, 2), words=big_endian(data, 6, 2), pairs=pairs)
 
 
-def stream_parts(data):
-    """The content of a stream file, as the vectors write a stream."""
-    parts = [line.split(" ") for line in lines_of(data)]
-    rest = {kind: [line[1] for line in parts if line[0] == kind] for kind in ["short", "long", "coin"]}
-    return {"shorts": rest["short"], "longs": rest["long"], "coins": rest["coin"]}
-
-
 def stream_file(data):
     """The content of a stream file."""
-    return stream(stream_parts(data))
+    parts = [line.split(" ") for line in lines_of(data)]
+    rest = {kind: [line[1] for line in parts if line[0] == kind] for kind in ["short", "long", "coin"]}
+    return stream({"shorts": rest["short"], "longs": rest["long"], "coins": rest["coin"]})
 
 
 def script(data):
@@ -125,8 +120,8 @@ CONTENTS = {
 NOT_READ = {
     "perm": "reading PERM is not defined yet",
     "wanted": "reading WANTED is not defined yet",
-    "manifest": "manifests are not defined yet",
 }
+MANIFEST = "the line has no content of a manifest"
 
 
 def same_bytes(name, data):
@@ -220,9 +215,17 @@ def is_second_key_file(case):
     return bytes.fromhex(case["bytes"])[3:4] == b"\x02" and not early
 
 
+def unchecked_file(case):
+    """What of a file is not checked."""
+    name = case["format"]
+    if name == "manifest":
+        return MANIFEST if case["fault"] is None else None
+    return NOT_READ.get(name, None if name in CONTENTS else f"no format {name} here")
+
+
 # what of a line no kind here checks
 UNCHECKED = {
-    "files": lambda case: NOT_READ.get(case["format"], None if case["format"] in CONTENTS else f"no format {case['format']} here"),
+    "files": unchecked_file,
     "scripts2": lambda case: "scripts of version 2 are not defined yet" if is_second_script(case) else None,
     "seeds": lambda case: "key files of version 2 are not defined yet" if is_second_key_file(case) else None,
 }

@@ -36,11 +36,9 @@ def used_homes(kind, text):
     """The modules and names of a kind that a text mentions."""
     mentioned = set(re.findall(r"[^\W\d]\w*", text))
     homes = {}
-    for module, names in {**STD, **kind.homes}.items():
-        chosen = [name for name in names.split() if local_name(name) in mentioned]
-        if chosen:
-            homes[module] = chosen
-    return homes
+    for module, names in [*STD.items(), *kind.homes.items()]:
+        homes.setdefault(module, []).extend(name for name in names.split() if local_name(name) in mentioned)
+    return {module: names for module, names in homes.items() if names}
 
 
 def use_lines(kind, text):
@@ -91,11 +89,6 @@ def words(items):
 def byte_list(digits):
     """Bytes in hexadecimal digits as a list of numbers."""
     return numbers(bytes.fromhex(digits))
-
-
-def text_codes(text):
-    """A text as the list of its bytes."""
-    return numbers(text.encode())
 
 
 def option(item):

@@ -1,7 +1,7 @@
 """Kinds of sessions: frames, what a station sends and prints, what a hub sends, prints and writes."""
 
-from .file_kinds import pairs_of, stream_file, stream_parts
-from .kind import Kind, byte_list, key_pair, listing, numbers, record, text_codes, word, words
+from .file_kinds import pairs_of, stream_file
+from .kind import Kind, byte_list, key_pair, listing, record, word, words
 
 # All definitions that these kinds use. `computing` opens every definition of one station.
 FRAMES = {
@@ -14,6 +14,7 @@ STATIONS = {
     "std.specs.Fmt": "digits",
     "dc_station_rules.proofs.Computing": "computing",
     "dc_station_rules.specs.Stations": "log_of sent_of pending_counts",
+    "dc_net_rules.specs.Runs": "station_word",
     "dc_net_rules.specs.SessionTexts": "says",
     "dc_run_texts.specs.Logs": "station_text",
 }
@@ -22,6 +23,7 @@ HUBS = {
     "dc_spec.specs.Recorded": "transcript_bytes superposed",
     "dc_spec.specs.Text": "words_text",
 }
+MOST_AT_ONCE = 20  # the words of a longer session are computed one by one, since one lemma would take too much memory
 HEADERS = {1: (6, "hello"), 2: (66, "send"), 3: (66, "all")}
 
 
@@ -81,17 +83,33 @@ def has_session(case):
     return case["status"] in (0, 9, 10, 11) and case["keys"][6:8] == "01"
 
 
+def said_claims(case, stations, rounds, pairs, who, heard):
+    """That what a station sent is what it says after the words that it heard."""
+    sent, station = case["sent"], case["station"]
+    if len(heard) <= MOST_AT_ONCE:
+        said = f"frames_bytes (says {station} {stations} {rounds} {pairs} {who} {words(heard)})"
+        return [sent_claim(said, sent, case["status"] != 10)]
+    claims = [sent_claim(f"frames_bytes (hello {station} {stations} {rounds} ∷ [])", sent[:18], len(sent) >= 18)]
+    frames = [sent[at : at + 138] for at in range(18, len(sent), 138)]
+    if case["status"] != 10 and (len(frames) != min(len(heard) + 1, rounds) or len(frames[-1]) < 138):
+        raise ValueError("another number of words was sent")
+    for number, digits in enumerate(frames):
+        said = f"frames_bytes (send {number} (station_word {who} {pairs} {station} {words(heard[:number])}) ∷ [])"
+        claims.append(sent_claim(said, digits, len(digits) == 138))
+    return claims
+
+
 def station_sessions(case):
     """What a station sent, and what it printed: all of it, or a beginning where the wire or the output failed."""
     if not has_session(case):
         return None
     keys, who = bytes.fromhex(case["keys"]), stream_file(bytes.fromhex(case["stream"]))
     stations, rounds = int.from_bytes(keys[4:6], "big"), int.from_bytes(keys[6:8], "big")
-    received = words(words_in_order(bytes.fromhex(case["peer"]), "all")[:rounds])
+    heard = words_in_order(bytes.fromhex(case["peer"]), "all")[:rounds]
     pairs = listing([key_pair(one) for one in pairs_of(keys)])
-    said = f"frames_bytes (says {case['station']} {stations} {rounds} {pairs} {who} {received})"
-    claims = [sent_claim(said, case["sent"], case["status"] != 10)]
+    claims = said_claims(case, stations, rounds, pairs, who, heard)
     if case["status"] in (0, 9):
+        received = words(heard)
         text = f"station_text {case['station']} (log_of {received}) (sent_of {who} {received}) (pending_counts {who} {received})"
         claims.append(sent_claim(text, case["printed"].encode().hex(), case["status"] == 0))
     return claims

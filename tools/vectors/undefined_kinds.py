@@ -2,7 +2,6 @@
 
 REASONS = {
     "checks": "how the files of a net agree is not defined yet",
-    "manifests": "manifests are not defined yet",
     "ruled": "scripts of version 2 are not defined yet",
     "ruled_steerings": "scripts of version 2 are not defined yet",
     "ruled_twins": "scripts of version 2 are not defined yet",
