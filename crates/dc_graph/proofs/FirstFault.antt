@@ -17,10 +17,10 @@ use Rattle.dc_spec.specs.Lists.{is_among}
 use Rattle.dc_graph.specs.declared.fault.GraphFault.TheVariants.{Stations, Ends, Repeated}
 use Rattle.dc_graph.specs.declared.fault.MemberFault.{MemberFault}
 use Rattle.dc_graph.specs.Graph.{IsEdge, IsGraph, AreMembers}
-use Rattle.dc_graph.specs.Faults.{told_place, joins, stands_in, pair_at, is_faulty_pair, pair_fault, first_pair_fault, graph_fault, is_faulty_member, member_fault}
+use Rattle.dc_graph.specs.Faults.{reported_place, joins, is_listed, pair_at, is_faulty_pair, pair_fault, first_pair_fault, graph_fault, is_faulty_member, member_fault}
 use Rattle.dc_spec.proofs.Options.{map-none}
-use Rattle.dc_field.proofs.Positions.{fails_where_none}
-use Rattle.dc_graph.proofs.Rising.{neighbours_differ, AreRising-from_sort}
+use Rattle.dc_graph.proofs.Positions.{fails_where_none}
+use Rattle.dc_graph.proofs.Rising.{neighbours_differ, AreRisingEdges-from_sort}
 
 place_is : (n k : ℕ) → k < n → get_or (range_with_len 0 n) k 0 ≡ k
 place_is n k lt = get_or-range_with_len 0 n k 0 lt ∙ omega arith
@@ -74,28 +74,29 @@ itself e = rw (eq-eqb e.0 e.0 refl, eq-eqb e.1 e.1 refl) refl
 -- the table of flags: one for each two stations, set where the pair stands among the first of a list
 pub record IsTable (n : ℕ) (es : List (ℕ × ℕ)) (i : ℕ) (seen : List Bool) : Type 0 where
   pub wide : length seen ≡ n * n
-  pub flags : (u v : ℕ) → u < n → v < n → get_or seen (u * n + v) false ≡ stands_in (take i es) (u, v)
+  pub flags : (u v : ℕ) → u < n → v < n → get_or seen (u * n + v) false ≡ is_listed (take i es) (u, v)
 
 place_apart : (n u v x y : ℕ) → v < n → y < n → u * n + v ≡ x * n + y → (u ≡ x) × (v ≡ y)
 place_apart n u v x y v' y' e =
     (sym (div-mul-add u n v v') ∙ ap (λ (k : ℕ). k / n) e ∙ div-mul-add x n y y', sym (mod-mul-add u n v v') ∙ ap (λ (k : ℕ). k % n) e ∙ mod-mul-add x n y y')
 
 -- one pair more, whose flag is set
-pub IsTable-more : (n : ℕ) (es : List (ℕ × ℕ)) (i u v : ℕ) (seen : List Bool) → IsTable n es i seen → i < length es → pair_at es i ≡ (u, v) → u < n → v < n → IsTable n es (i + 1) (set seen (u * n + v) true)
+pub IsTable-more : (n : ℕ) (es : List (ℕ × ℕ)) (i u v : ℕ) (seen : List Bool) → IsTable n es i seen → i < length es → pair_at es i ≡ (u, v) → u < n → v < n
+    → IsTable n es (i + 1) (set seen (u * n + v) true)
 IsTable-more n es i u v seen table lt here u' v' = record {
   wide = length-set seen (u * n + v) true ∙ table.wide;
   flags = λ x y x' y'.
-      let more : stands_in (take (i + 1) es) (x, y) ≡ (stands_in (take i es) (x, y) || (nat_eq u x && nat_eq v y)) = rw (list_any_more (λ f. nat_eq f.0 x && nat_eq f.1 y) es i (0, 0) lt, here) refl in
+      let more : is_listed (take (i + 1) es) (x, y) ≡ (is_listed (take i es) (x, y) || (nat_eq u x && nat_eq v y)) = rw (list_any_more (λ f. nat_eq f.0 x && nat_eq f.1 y) es i (0, 0) lt, here) refl in
       let old = table.flags x y x' y' in
       elim (cases_Bool (nat_eq u x && nat_eq v y)) [
         | inl passes ↦ (let is : (u, v) ≡ (x, y) = same_pair (u, v) (x, y) passes in
             let at : x * n + y ≡ u * n + v = ap (λ (e : ℕ × ℕ). e.0 * n + e.1) (sym is) in
             let within : u * n + v < length seen = let w = table.wide in omega (arith, mul-add-lt u n v n u' v') in
             let set_here : get_or (set seen (u * n + v) true) (x * n + y) false ≡ true = rw at (get_or-set_same seen (u * n + v) true false within) in
-            set_here ∙ sym (more ∙ rw passes (or-true (stands_in (take i es) (x, y)))))
+            set_here ∙ sym (more ∙ rw passes (or-true (is_listed (take i es) (x, y)))))
         | inr fails ↦ (let apart : x * n + y ≢ u * n + v = λ e. (let parts = place_apart n x y u v y' v' e in true≢false (sym (rw (eq-eqb u x (sym parts.0), eq-eqb v y (sym parts.1)) refl) ∙ fails)) in
             let set_there : get_or (set seen (u * n + v) true) (x * n + y) false ≡ get_or seen (x * n + y) false = rw get_or-set_other refl in
-            set_there ∙ old ∙ sym (more ∙ rw fails (or-false (stands_in (take i es) (x, y)))))
+            set_there ∙ old ∙ sym (more ∙ rw fails (or-false (is_listed (take i es) (x, y)))))
       ];
 }
 
@@ -119,14 +120,16 @@ ends_of_joins n u v e = elim (cases_lt u v) [
 ]
 
 -- the fault of a pair that joins no stations, where no pair before it is faulty
-pub ends_told : (n : ℕ) (es : List (ℕ × ℕ)) (i : ℕ) → i < length es → ((k : ℕ) → k < i → is_faulty_pair n es k ≡ false) → joins n (pair_at es i) ≡ false → first_pair_fault n es ≡ Some (Ends (told_place i))
-ends_told n es i lt clear e =
-    rw (first_place (is_faulty_pair n es) (length es) i lt clear (faulty_by_ends (joins n (pair_at es i)) (stands_in (take i es) (pair_at es i)) e), e) refl
+pub ends_reported : (n : ℕ) (es : List (ℕ × ℕ)) (i : ℕ) → i < length es → ((k : ℕ) → k < i → is_faulty_pair n es k ≡ false) → joins n (pair_at es i) ≡ false
+    → first_pair_fault n es ≡ Some (Ends (reported_place i))
+ends_reported n es i lt clear e =
+    rw (first_place (is_faulty_pair n es) (length es) i lt clear (faulty_by_ends (joins n (pair_at es i)) (is_listed (take i es) (pair_at es i)) e), e) refl
 
 -- the fault of a pair that stood before
-pub before_told : (n : ℕ) (es : List (ℕ × ℕ)) (i : ℕ) → i < length es → ((k : ℕ) → k < i → is_faulty_pair n es k ≡ false) → joins n (pair_at es i) ≡ true → stands_in (take i es) (pair_at es i) ≡ true → first_pair_fault n es ≡ Some (Repeated (told_place i))
-before_told n es i lt clear e f =
-    rw (first_place (is_faulty_pair n es) (length es) i lt clear (faulty_by_before (joins n (pair_at es i)) (stands_in (take i es) (pair_at es i)) f), e) refl
+pub before_reported : (n : ℕ) (es : List (ℕ × ℕ)) (i : ℕ) → i < length es → ((k : ℕ) → k < i → is_faulty_pair n es k ≡ false) → joins n (pair_at es i) ≡ true
+    → is_listed (take i es) (pair_at es i) ≡ true → first_pair_fault n es ≡ Some (Repeated (reported_place i))
+before_reported n es i lt clear e f =
+    rw (first_place (is_faulty_pair n es) (length es) i lt clear (faulty_by_before (joins n (pair_at es i)) (is_listed (take i es) (pair_at es i)) f), e) refl
 
 -- where no place passes, each fails
 pub clear_of_none : (p : ℕ → Bool) (n : ℕ) → position p (range_with_len 0 n) ≡ None → (k : ℕ) → k < n → p k ≡ false
@@ -138,23 +141,24 @@ none_of_choice true o x e = (refl, e)
 none_of_choice false o x e = absurd cc
 
 -- a sorted list of the pairs of a list without a fault is a graph
-pub IsGraph-from_sort : (n : ℕ) (es kept : List (ℕ × ℕ)) → graph_fault n es ≡ None → IsPermutation es kept → IsSorted (λ e f. ordering_then (nat_cmp e.0 f.0) (nat_cmp e.1 f.1)) kept → IsGraph (record { stations = n; edges = kept })
+pub IsGraph-from_sort : (n : ℕ) (es kept : List (ℕ × ℕ)) → graph_fault n es ≡ None → IsPermutation es kept
+    → IsSorted (λ e f. ordering_then (nat_cmp e.0 f.0) (nat_cmp e.1 f.1)) kept → IsGraph (record { stations = n; edges = kept })
 IsGraph-from_sort n es kept none moved sorted =
     let parts = none_of_choice (leb 1 n && leb n 256) (first_pair_fault n es) (Stations n) none in
     let range = and_parts (leb 1 n) (leb n 256) parts.0 in
     let clear = clear_of_none (is_faulty_pair n es) (length es) (map-none (pair_fault n es) (position (is_faulty_pair n es) (range_with_len 0 (length es))) parts.1) in
-    let both : (k : ℕ) → k < length es → (joins n (pair_at es k) ≡ true) × (stands_in (take k es) (pair_at es k) ≡ false) = λ k lt. not_faulty (joins n (pair_at es k)) (stands_in (take k es) (pair_at es k)) (clear k lt) in
+    let both : (k : ℕ) → k < length es → (joins n (pair_at es k) ≡ true) × (is_listed (take k es) (pair_at es k) ≡ false) = λ k lt. not_faulty (joins n (pair_at es k)) (is_listed (take k es) (pair_at es k)) (clear k lt) in
     record {
       some_stations = leb-true 1 n range.0;
       most_stations = leb-true n 256 range.1;
       are_edges = All-permutation (IsEdge n) es kept moved (All-from_get_or (IsEdge n) es (0, 0) (λ k lt. let ends = ends_of_joins n (pair_at es k).0 (pair_at es k).1 (both k lt).0 in record { ends = ends.0; within = ends.1 }));
-      rising = AreRising-from_sort kept sorted (neighbours_differ (λ f e. nat_eq f.0 e.0 && nat_eq f.1 e.1) same_pair itself es kept (0, 0) (λ k lt. (both k lt).1) moved);
+      rising = AreRisingEdges-from_sort kept sorted (neighbours_differ (λ f e. nat_eq f.0 e.0 && nat_eq f.1 e.1) same_pair itself es kept (0, 0) (λ k lt. (both k lt).1) moved);
     }
 
 -- a sorted list of the numbers of a list without a fault is a coalition
 pub AreMembers-from_sort : (n : ℕ) (ms kept : List ℕ) → n ≤ 256 → member_fault n ms ≡ None → IsPermutation ms kept → IsSorted nat_cmp kept → AreMembers kept
 AreMembers-from_sort n ms kept le none moved sorted =
-    let clear = clear_of_none (is_faulty_member n ms) (length ms) (map-none (λ (i : ℕ). let fault : MemberFault = record { place = told_place i } in fault) (position (is_faulty_member n ms) (range_with_len 0 (length ms))) none) in
+    let clear = clear_of_none (is_faulty_member n ms) (length ms) (map-none (λ (i : ℕ). let fault : MemberFault = record { place = reported_place i } in fault) (position (is_faulty_member n ms) (range_with_len 0 (length ms))) none) in
     let both : (k : ℕ) → k < length ms → (leb n (get_or ms k 0) ≡ false) × (is_among (take k ms) (get_or ms k 0) ≡ false) = λ k lt. or_parts (leb n (get_or ms k 0)) (is_among (take k ms) (get_or ms k 0)) (clear k lt) in
     let order = IsNonDecreasingBy-from_sort (λ (m : ℕ). m) kept sorted in
     let below : ℕ → Type 0 = λ m. m < 256 in

@@ -1,2 +1,3 @@
 mod FirstFault
 mod Rising
+mod Positions

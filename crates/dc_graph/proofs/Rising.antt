@@ -7,7 +7,7 @@ use Rattle.std.proofs.lemmas.Bool.{cases_Bool, cases_lt, cases_order, le-ltb, lt
 use Rattle.std.proofs.lemmas.List.{take_all, get_or_default}
 use Rattle.std.proofs.lemmas.List.Sorted.{sum_by-IsPermutation}
 use Rattle.std.proofs.lemmas.List.Sums.{count_by_more_yes, count_by_more_no, sum_by-take-le}
-use Rattle.dc_graph.specs.Graph.{AreRising, IsEdge, AreMembers}
+use Rattle.dc_graph.specs.Graph.{AreRisingEdges, IsEdge, AreMembers}
 
 -- nothing that passes is counted as none
 none_counted : {X : Type 0} (p : X → Bool) (xs : List X) → list_any p xs ≡ false → count_by p xs ≡ 0
@@ -25,7 +25,8 @@ two_counted p xs k d lt first second =
     omega (arith, one, two, sum_by-take-le (λ x. cond (p x) 1 0) xs (k + 1 + 1))
 
 -- what does not stand before its place is counted at most once
-once_counted : {X : Type 0} (same : X → X → Bool) (reads : (y x : X) → same y x ≡ true → y ≡ x) (xs : List X) (d x : X) → ((k : ℕ) → k < length xs → list_any (λ y. same y (get_or xs k d)) (take k xs) ≡ false)
+once_counted : {X : Type 0} (same : X → X → Bool) (reads : (y x : X) → same y x ≡ true → y ≡ x) (xs : List X) (d x : X)
+    → ((k : ℕ) → k < length xs → list_any (λ y. same y (get_or xs k d)) (take k xs) ≡ false)
     → (i : ℕ) → i ≤ length xs → count_by (λ y. same y x) (take i xs) ≤ 1
 once_counted same reads xs d x fresh zero le = omega arith
 once_counted same reads xs d x fresh (suc i) le =
@@ -41,7 +42,8 @@ once_counted same reads xs d x fresh (suc i) le =
     subst P (add-one i) here
 
 -- no two neighbours of a rearranged list of different items are the same
-pub neighbours_differ : {X : Type 0} (same : X → X → Bool) (reads : (y x : X) → same y x ≡ true → y ≡ x) (itself : (x : X) → same x x ≡ true) (xs ys : List X) (d : X) → ((k : ℕ) → k < length xs → list_any (λ y. same y (get_or xs k d)) (take k xs) ≡ false)
+pub neighbours_differ : {X : Type 0} (same : X → X → Bool) (reads : (y x : X) → same y x ≡ true → y ≡ x) (itself : (x : X) → same x x ≡ true) (xs ys : List X) (d : X)
+    → ((k : ℕ) → k < length xs → list_any (λ y. same y (get_or xs k d)) (take k xs) ≡ false)
     → IsPermutation xs ys → (k : ℕ) → k + 1 < length ys → get_or ys k d ≡ get_or ys (k + 1) d → ⊥
 neighbours_differ same reads itself xs ys d fresh moved k lt e =
     let x = get_or ys k d in
@@ -68,8 +70,9 @@ not_less e f h = elim (cases_order f.0 e.0) [
 ]
 
 -- a sorted list of pairs of which no two neighbours are the same rises
-pub AreRising-from_sort : (es : List (ℕ × ℕ)) → IsSorted (λ e f. ordering_then (nat_cmp e.0 f.0) (nat_cmp e.1 f.1)) es → ((k : ℕ) → k + 1 < length es → get_or es k (0, 0) ≡ get_or es (k + 1) (0, 0) → ⊥) → AreRising es
-AreRising-from_sort es sorted differ i d lt =
+pub AreRisingEdges-from_sort : (es : List (ℕ × ℕ)) → IsSorted (λ e f. ordering_then (nat_cmp e.0 f.0) (nat_cmp e.1 f.1)) es
+    → ((k : ℕ) → k + 1 < length es → get_or es k (0, 0) ≡ get_or es (k + 1) (0, 0) → ⊥) → AreRisingEdges es
+AreRisingEdges-from_sort es sorted differ i d lt =
     let e = get_or es i d in
     let f = get_or es (i + 1) d in
     let order = not_less (get_or es i d) (get_or es (i + 1) d) (sorted i d (omega arith) lt) in
@@ -86,7 +89,7 @@ AreRising-from_sort es sorted differ i d lt =
     }
 
 -- the edge at a place is at least so far up
-rise_at : (es : List (ℕ × ℕ)) (n : ℕ) → n ≤ 256 → All (IsEdge n) es → AreRising es → (i : ℕ) → i < length es → i ≤ 256 * (get_or es i (0, 0)).0 + (get_or es i (0, 0)).1
+rise_at : (es : List (ℕ × ℕ)) (n : ℕ) → n ≤ 256 → All (IsEdge n) es → AreRisingEdges es → (i : ℕ) → i < length es → i ≤ 256 * (get_or es i (0, 0)).0 + (get_or es i (0, 0)).1
 rise_at es n le are up zero lt = omega arith
 rise_at es n le are up (suc i) lt =
     let P : ℕ → Type 0 = λ k. k ≤ 256 * (get_or es k (0, 0)).0 + (get_or es k (0, 0)).1 in
@@ -100,7 +103,7 @@ rise_at es n le are up (suc i) lt =
     subst P (add-one i) here
 
 -- so there are at most 65536
-pub edges_are_few : (es : List (ℕ × ℕ)) (n : ℕ) → n ≤ 256 → All (IsEdge n) es → AreRising es → length es ≤ 65536
+pub edges_are_few : (es : List (ℕ × ℕ)) (n : ℕ) → n ≤ 256 → All (IsEdge n) es → AreRisingEdges es → length es ≤ 65536
 edges_are_few es n le are up = elim (cases_lt 65536 (length es)) [
   | inl more ↦ (let at = rise_at es n le are up 65536 more in
       let edge = are 65536 (0, 0) more in

@@ -7,12 +7,12 @@ ghost use Rattle.dc_graph.specs.Faults.{MakesCoalition};
 
 use crate::fault::MemberFault;
 use crate::graph::Graph;
-use crate::judging::{member_fault, stands};
+use crate::judging::{is_in, member_fault};
 use dc_field::{NoMemory, Refusal};
 use std::alloc::Global;
 use std::marker::Model;
 
-/// Stations of a key graph, seen by contracts as the rising list of their numbers.
+/// Stations of a key graph. In contracts it is the rising list of their numbers.
 #[derive(Debug, Drop)]
 pub struct Coalition {
     members: Vec<u16>,
@@ -30,7 +30,7 @@ impl Model for Coalition {
 }
 
 impl Coalition {
-    /// The coalition of these stations of a graph, in any order.
+    /// The coalition of these stations of a graph, in any order, or the first fault.
     pub fn new(alloc: Global, g: &Graph, members: &[u16]) -> Result<Coalition, Refusal<MemberFault>>
         ensures { MakesCoalition g.now.stations members.now result }
     {
@@ -49,7 +49,7 @@ impl Coalition {
         ensures value { result ≡ is_among self.now i }
         ensures members { AreMembers self.now }
     {
-        stands(self.members.as_slice(), i)
+        is_in(self.members.as_slice(), i)
     }
 
     /// The number of members, at most 256.
@@ -59,7 +59,7 @@ impl Coalition {
         self.members.len() as u16
     }
 
-    /// The same coalition again.
+    /// A copy of the coalition.
     pub fn copy(&self, alloc: Global) -> Result<Coalition, NoMemory>
         ensures { IfOk result (λ c. c ≡ self.now) }
     {

@@ -30,7 +30,7 @@ impl Model for Graph {
 }
 
 impl Graph {
-    /// The graph of `n` stations with these edges, in any order.
+    /// The graph of `n` stations with these edges, in any order, or the first fault.
     pub fn new(alloc: Global, n: u16, edges: &[(u16, u16)]) -> Result<Graph, Refusal<GraphFault>>
         ensures { MakesGraph n edges.now result }
     {
@@ -79,7 +79,7 @@ impl Graph {
             .any(|e| (e.0 == u && e.1 == v) || (e.0 == v && e.1 == u))
     }
 
-    /// The same graph again.
+    /// A copy of the graph.
     pub fn copy(&self, alloc: Global) -> Result<Graph, NoMemory>
         ensures { IfOk result (λ g. g ≡ self.now) }
     {

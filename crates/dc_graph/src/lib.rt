@@ -9,6 +9,3 @@ mod judging;
 pub use coalition::Coalition;
 pub use fault::{GraphFault, MemberFault};
 pub use graph::Graph;
-
-#[cfg(test)]
-mod tests;

@@ -5,3 +5,6 @@ mod Spelling
 mod Rereading
 mod Putting
 mod WorkedElements
+mod Positions
+mod FirstAbove
+mod ReaderTests

@@ -5,9 +5,9 @@ use Rattle.std.proofs.lemmas.List.FromFn.{get_or-map-range_with_len, length-map-
 use Rattle.std.proofs.lemmas.List.Elements.{All-from_get_or}
 use Rattle.dc_spec.specs.Words.{IsSymbol}
 use Rattle.dc_spec.specs.Bytes.{number_at}
-use Rattle.dc_field.proofs.FirstAbove.{small_where_none, none_where_small, first_is}
+use Rattle.dc_keyfile.proofs.FirstAbove.{small_where_none, none_where_small, first_is}
 use Rattle.dc_keyfile.specs.declared.fault.KeyFault.TheVariants.{Symbol}
-use Rattle.dc_keyfile.specs.Reading.{numbers_at, judged, pads_of}
+use Rattle.dc_keyfile.specs.Reading.{numbers_at, pads_or_fault, pads_of}
 
 -- ---- so many pads
 
@@ -18,7 +18,8 @@ pub number-numbers_at : (piece : List ℕ) (index count k : ℕ) → k < count �
 number-numbers_at piece index count k lt = get_or-map-range_with_len (λ n. number_at piece (4 + 4 * (index + n))) 0 count k k 0 lt (omega arith)
 
 -- one number more
-pub numbers_more : (piece : List ℕ) (index n x : ℕ) (pads more : List ℕ) → pads ≡ numbers_at piece index n → x ≡ number_at piece (4 + 4 * (index + n)) → more ≡ pads ++ x ∷ [] → more ≡ numbers_at piece index (n + 1)
+pub numbers_more : (piece : List ℕ) (index n x : ℕ) (pads more : List ℕ) → pads ≡ numbers_at piece index n → x ≡ number_at piece (4 + 4 * (index + n)) → more ≡ pads ++ x ∷ []
+    → more ≡ numbers_at piece index (n + 1)
 numbers_more piece index n x pads more so_far here pushed = pushed ∙ rw (so_far, here) (sym (map-range_with_len_more (λ n. number_at piece (4 + 4 * (index + n))) 0 n n (omega arith)))
 
 -- where all are symbols, they are read
@@ -29,7 +30,8 @@ pads_are_read piece p index count good =
     rw none refl
 
 -- the first that is no symbol is told
-pub first_is_told : (piece : List ℕ) (p index count n seen : ℕ) → n < count → seen ≡ number_at piece (4 + 4 * (index + n)) → 65536 < seen → All IsSymbol (numbers_at piece index n) → pads_of piece p index count ≡ Err (Symbol p (index + n) seen)
+pub first_is_told : (piece : List ℕ) (p index count n seen : ℕ) → n < count → seen ≡ number_at piece (4 + 4 * (index + n)) → 65536 < seen → All IsSymbol (numbers_at piece index n)
+    → pads_of piece p index count ≡ Err (Symbol p (index + n) seen)
 unfolding pads_of
 first_is_told piece p index count n seen lt is large good =
     let here : get_or (numbers_at piece index count) n 0 ≡ seen = number-numbers_at piece index count n lt ∙ sym is in
@@ -40,7 +42,7 @@ first_is_told piece p index count n seen lt is large good =
     let found : position (λ x. ltb 65536 x) (numbers_at piece index count) ≡ Some n = first_is (numbers_at piece index count) n (omega arith) (rw here large) before in
     rw (found, here) refl
 
-judged_well : (p index : ℕ) (numbers : List ℕ) (o : Option ℕ) (pads : List ℕ) → judged p index numbers o ≡ Ok pads → (pads ≡ numbers) × (o ≡ None)
+judged_well : (p index : ℕ) (numbers : List ℕ) (o : Option ℕ) (pads : List ℕ) → pads_or_fault p index numbers o ≡ Ok pads → (pads ≡ numbers) × (o ≡ None)
 judged_well p index numbers None pads e = (cc, refl)
 judged_well p index numbers (Some n) pads e = absurd cc
 

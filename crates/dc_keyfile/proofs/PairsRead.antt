@@ -16,7 +16,7 @@ use Rattle.dc_field.specs.declared.refusal.Refusal.{Refusal}
 use Rattle.dc_field.specs.declared.refusal.Refusal.TheVariants.{NoMemory, Bad}
 use Rattle.dc_field.specs.Answers.{Answers}
 use Rattle.std.proofs.lemmas.Bool.{not-false, and_parts}
-use Rattle.dc_field.proofs.ReaderTests.{passed}
+use Rattle.dc_keyfile.proofs.ReaderTests.{passed}
 use Rattle.dc_keyfile.specs.declared.fault.KeyFault.{KeyFault}
 use Rattle.dc_keyfile.specs.Reading.{piece_at, ends_of, are_ends, is_before, is_rising, numbers_at, pads_of, with_first, with_second, padded, pair_of, put_first, all_or_first, pairs_of}
 use Rattle.dc_keyfile.proofs.Pads.{length-numbers_at, pads_found}
@@ -53,34 +53,39 @@ apart f count i lt =
     ∙ rw (take-map-range_with_len f 0 count i (omega arith), drop-cons (map f (range_with_len 0 count)) i (f i) (omega arith), get_or-map-range_with_len f 0 count i i (f i) lt (omega arith)) refl
 
 -- one pair more
-pub one_more : (f : ℕ → Result Pair KeyFault) (i : ℕ) (ps more : List Pair) (p : Pair) → map f (range_with_len 0 i) ≡ map Ok ps → f i ≡ Ok p → more ≡ ps ++ p ∷ [] → map f (range_with_len 0 (i + 1)) ≡ map Ok more
+pub one_more : (f : ℕ → Result Pair KeyFault) (i : ℕ) (ps more : List Pair) (p : Pair) → map f (range_with_len 0 i) ≡ map Ok ps → f i ≡ Ok p → more ≡ ps ++ p ∷ []
+    → map f (range_with_len 0 (i + 1)) ≡ map Ok more
 one_more f i ps more p so_far here pushed = rw (map-range_with_len_more f 0 i i (omega arith), so_far, here, pushed) (sym (map_push Ok ps p))
 
 joined : {X : Type 0} {xs ys : List X} {x y : X} (rest : List X) → xs ≡ ys → x ≡ y → xs ++ x ∷ rest ≡ ys ++ y ∷ rest
 joined rest e f = cc
 
 -- a fault after pairs without one
-pub fault_is_first : (f : ℕ → Result Pair KeyFault) (count i : ℕ) (ps : List Pair) (fault : KeyFault) → i < count → map f (range_with_len 0 i) ≡ map Ok ps → f i ≡ Err fault → all_or_first (map f (range_with_len 0 count)) ≡ Err fault
+pub fault_is_first : (f : ℕ → Result Pair KeyFault) (count i : ℕ) (ps : List Pair) (fault : KeyFault) → i < count → map f (range_with_len 0 i) ≡ map Ok ps → f i ≡ Err fault
+    → all_or_first (map f (range_with_len 0 count)) ≡ Err fault
 fault_is_first f count i ps fault lt so_far here =
     let rest : List (Result Pair KeyFault) = drop (suc i) (map f (range_with_len 0 count)) in
     let parts : map f (range_with_len 0 count) ≡ map Ok ps ++ Err fault ∷ drop (suc i) (map f (range_with_len 0 count)) = apart f count i lt ∙ joined rest so_far here in
     ap all_or_first parts ∙ first_fault ps fault (drop (suc i) (map f (range_with_len 0 count)))
 
-refused_alike : (bytes : List ℕ) (stations words count i : ℕ) (ps : List Pair) (r : Refusal KeyFault) → i < count → map (pair_of bytes stations words) (range_with_len 0 i) ≡ map Ok ps → Answers {X = Pair} (Err r) (pair_of bytes stations words i)
+refused_alike : (bytes : List ℕ) (stations words count i : ℕ) (ps : List Pair) (r : Refusal KeyFault) → i < count
+    → map (pair_of bytes stations words) (range_with_len 0 i) ≡ map Ok ps → Answers {X = Pair} (Err r) (pair_of bytes stations words i)
     → Answers {X = List Pair} (Err r) (pairs_of bytes stations words count)
 unfolding pairs_of
 refused_alike bytes stations words count i ps NoMemory lt so_far here = tt
 refused_alike bytes stations words count i ps (Bad fault) lt so_far here = fault_is_first (pair_of bytes stations words) count i ps fault lt so_far here
 
 -- the exit with the refusal of a pair
-pub refusal_is_first : (bytes : List ℕ) (stations words count i : ℕ) (ps : List Pair) (r : Refusal KeyFault) (result : Result (List Pair) (Refusal KeyFault)) → i < count → map (pair_of bytes stations words) (range_with_len 0 i) ≡ map Ok ps
+pub refusal_is_first : (bytes : List ℕ) (stations words count i : ℕ) (ps : List Pair) (r : Refusal KeyFault) (result : Result (List Pair) (Refusal KeyFault)) → i < count
+    → map (pair_of bytes stations words) (range_with_len 0 i) ≡ map Ok ps
     → Answers {X = Pair} (Err r) (pair_of bytes stations words i) → IsErrAnd result (λ e. e ≡ r) → Answers result (pairs_of bytes stations words count)
 refusal_is_first bytes stations words count i ps r (Ok qs) lt so_far here is = absurd is
 refusal_is_first bytes stations words count i ps r (Err e) lt so_far here is =
     subst (λ (x : Refusal KeyFault). Answers {X = List Pair} (Err x) (pairs_of bytes stations words count)) (sym is) (refused_alike bytes stations words count i ps r lt so_far here)
 
 -- all pairs, none with a fault
-pub pairs_are_read : (bytes : List ℕ) (stations words count i : ℕ) (ps : List Pair) → i ≡ count → map (pair_of bytes stations words) (range_with_len 0 i) ≡ map Ok ps → pairs_of bytes stations words count ≡ Ok ps
+pub pairs_are_read : (bytes : List ℕ) (stations words count i : ℕ) (ps : List Pair) → i ≡ count → map (pair_of bytes stations words) (range_with_len 0 i) ≡ map Ok ps
+    → pairs_of bytes stations words count ≡ Ok ps
 unfolding pairs_of
 pairs_are_read bytes stations words count i ps end so_far =
     ap (λ (n : ℕ). all_or_first (map (pair_of bytes stations words) (range_with_len 0 n))) (sym end) ∙ ap all_or_first so_far ∙ all_again ps
@@ -88,7 +93,8 @@ pairs_are_read bytes stations words count i ps end so_far =
 -- ---- a pair
 
 -- pads that were read make a pair
-pub IsPairKey-from_pads : (piece : List ℕ) (words p u v : ℕ) (a b : List ℕ) → 1 ≤ words → words ≤ 4096 → pads_of piece p 0 (16 * words) ≡ Ok a → pads_of piece p (16 * words) (16 * words) ≡ Ok b → get_or b 0 0 ≡ 0 → IsPairKey (record { u = u; v = v; a = a; b = b })
+pub IsPairKey-from_pads : (piece : List ℕ) (words p u v : ℕ) (a b : List ℕ) → 1 ≤ words → words ≤ 4096 → pads_of piece p 0 (16 * words) ≡ Ok a
+    → pads_of piece p (16 * words) (16 * words) ≡ Ok b → get_or b 0 0 ≡ 0 → IsPairKey (record { u = u; v = v; a = a; b = b })
 IsPairKey-from_pads piece words p u v a b some most first second zero_first =
     let first' = pads_found piece p 0 (16 * words) a first in
     let second' = pads_found piece p (16 * words) (16 * words) b second in
@@ -114,7 +120,8 @@ kept false fault p q e = absurd cc
 abbrev pub the_pair : ℕ × ℕ → List ℕ → List ℕ → Pair
 the_pair e a b = record { u = e.0; v = e.1; a = a; b = b }
 
-with_second_well : (e : ℕ × ℕ) (p : ℕ) (a : List ℕ) (r : Result (List ℕ) KeyFault) (pair : Pair) → with_second e p a r ≡ Ok pair → (b : List ℕ) × (r ≡ Ok b) × (get_or b 0 0 ≡ 0) × (the_pair e a b ≡ pair)
+with_second_well : (e : ℕ × ℕ) (p : ℕ) (a : List ℕ) (r : Result (List ℕ) KeyFault) (pair : Pair) → with_second e p a r ≡ Ok pair
+    → (b : List ℕ) × (r ≡ Ok b) × (get_or b 0 0 ≡ 0) × (the_pair e a b ≡ pair)
 with_second_well e p a (Err fault) pair given = absurd cc
 with_second_well e p a (Ok b) pair given = let parts = kept (eqb (get_or b 0 0) 0) _ _ pair given in (b, refl, eqb-true (get_or b 0 0) 0 parts.0, parts.1)
 
@@ -128,7 +135,8 @@ pub record IsPadded (piece : List ℕ) (words : ℕ) (pair : Pair) : Type 0 wher
   pub second_symbols : All IsSymbol pair.b
   pub no_first : get_or pair.b 0 0 ≡ 0
 
-with_first_well : (piece : List ℕ) (words p : ℕ) (r : Result (List ℕ) KeyFault) (pair : Pair) → pads_of piece p 0 (16 * words) ≡ r → with_first (ends_of piece) piece p (16 * words) r ≡ Ok pair → IsPadded piece words pair
+with_first_well : (piece : List ℕ) (words p : ℕ) (r : Result (List ℕ) KeyFault) (pair : Pair) → pads_of piece p 0 (16 * words) ≡ r
+    → with_first (ends_of piece) piece p (16 * words) r ≡ Ok pair → IsPadded piece words pair
 with_first_well piece words p (Err fault) pair first given = absurd cc
 with_first_well piece words p (Ok a) pair first given =
     let parts = with_second_well (ends_of piece) p a (pads_of piece p (16 * words) (16 * words)) pair given in
@@ -185,7 +193,8 @@ IsBefore-from_read bytes stations words p one next is is' =
 -- ---- all pairs that were read
 
 -- each pair of a list that was read
-pub each_found : (bytes : List ℕ) (stations words count : ℕ) (ps : List Pair) → pairs_of bytes stations words count ≡ Ok ps → (length ps ≡ count) × ((k : ℕ) (d : Pair) → k < count → IsRead bytes stations words k (get_or ps k d))
+pub each_found : (bytes : List ℕ) (stations words count : ℕ) (ps : List Pair) → pairs_of bytes stations words count ≡ Ok ps
+    → (length ps ≡ count) × ((k : ℕ) (d : Pair) → k < count → IsRead bytes stations words k (get_or ps k d))
 unfolding pairs_of
 each_found bytes stations words count ps given =
     let there : map (pair_of bytes stations words) (range_with_len 0 count) ≡ map Ok ps = all_there _ ps given in
@@ -195,7 +204,8 @@ each_found bytes stations words count ps given =
           (sym (get_or-map-range_with_len (pair_of bytes stations words) 0 count k k (Ok d) lt (omega arith)) ∙ ap (λ (rs : List (Result Pair KeyFault)). get_or rs k (Ok d)) there ∙ get_or-map Ok ps k d (Ok d) (omega arith)),
     )
 
-pub IsKeys-from_pairs : (bytes : List ℕ) (stations words count : ℕ) (ps : List Pair) → 1 ≤ stations → stations ≤ 256 → 1 ≤ words → words ≤ 4096 → count * (32 * words) ≤ 2 ^ 26 → pairs_of bytes stations words count ≡ Ok ps → IsKeys (record { stations = stations; words = words; pairs = ps })
+pub IsKeys-from_pairs : (bytes : List ℕ) (stations words count : ℕ) (ps : List Pair) → 1 ≤ stations → stations ≤ 256 → 1 ≤ words → words ≤ 4096 → count * (32 * words) ≤ 2 ^ 26
+    → pairs_of bytes stations words count ≡ Ok ps → IsKeys (record { stations = stations; words = words; pairs = ps })
 IsKeys-from_pairs bytes stations words count ps some most some' most' fits given =
     let each = each_found bytes stations words count ps given in
     record {

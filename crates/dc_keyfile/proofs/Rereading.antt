@@ -12,12 +12,12 @@ use Rattle.dc_formats.proofs.BinaryLaws.{few_pairs}
 use Rattle.dc_spec.specs.Words.{IsSymbol}
 use Rattle.dc_spec.specs.Bytes.{symbol_bytes, number_at, short_at}
 use Rattle.dc_spec.specs.Pads.{Pair, Keys}
-use Rattle.dc_formats.specs.KeyFile.{IsPair, IsPairBefore, IsKeys, pair_bytes, keys_bytes}
-use Rattle.dc_keyfile.specs.Reading.{pair_size, due_length, piece_at, ends_of, are_ends, is_before, is_rising, numbers_at, pads_of, padded, pair_of, all_or_first, pairs_of, body_of, sized, keys_of}
+use Rattle.dc_formats.specs.KeyFile.{IsPair, IsBefore, IsKeys, pair_bytes, keys_bytes}
+use Rattle.dc_keyfile.specs.Reading.{pair_size, due_length, piece_at, ends_of, are_ends, is_before, is_rising, numbers_at, pads_of, padded, pair_of, all_or_first, pairs_of, keys_after_head, keys_with_head, keys_from_bytes}
 use Rattle.dc_keyfile.proofs.Pads.{pads_are_read}
 use Rattle.dc_keyfile.proofs.PairsRead.{all_again}
 use Rattle.dc_spec.proofs.ByteLemmas.{number_again, short_again, piece_of, length_of_pieces}
-use Rattle.dc_field.proofs.ReaderTests.{within}
+use Rattle.dc_keyfile.proofs.ReaderTests.{within}
 use Rattle.dc_keyfile.proofs.Spelling.{head_of}
 
 -- ---- a pair
@@ -72,7 +72,8 @@ ends_again stations words p most is =
     let within : ltb p.v stations ≡ true = lt-ltb _ _ is.within in
     rw (lesser_again stations words p most is, greater_again stations words p most is, rising, within) refl
 
-pair_again : (bytes : List ℕ) (stations words place : ℕ) (p : Pair) → stations ≤ 256 → IsPair stations words p → piece_at bytes words place ≡ pair_bytes p → is_rising bytes words place ≡ true → pair_of bytes stations words place ≡ Ok p
+pair_again : (bytes : List ℕ) (stations words place : ℕ) (p : Pair) → stations ≤ 256 → IsPair stations words p → piece_at bytes words place ≡ pair_bytes p
+    → is_rising bytes words place ≡ true → pair_of bytes stations words place ≡ Ok p
 unfolding pair_of
 pair_again bytes stations words place p most is there rising =
     let ends : are_ends stations (ends_of (piece_at bytes words place)) ≡ true = subst (λ (xs : List ℕ). are_ends stations (ends_of xs) ≡ true) (sym there) (ends_again stations words p most is) in
@@ -93,7 +94,8 @@ is_before_again a b c d le equal =
           rw (not_less, as_much, less) refl
     ]
 
-before_again : (stations words : ℕ) (p q : Pair) → stations ≤ 256 → IsPair stations words p → IsPair stations words q → IsPairBefore p q → is_before (ends_of (pair_bytes p)) (ends_of (pair_bytes q)) ≡ true
+before_again : (stations words : ℕ) (p q : Pair) → stations ≤ 256 → IsPair stations words p → IsPair stations words q → IsBefore p q
+    → is_before (ends_of (pair_bytes p)) (ends_of (pair_bytes q)) ≡ true
 before_again stations words p q most is is' before =
     rw (lesser_again stations words p most is, lesser_again stations words q most is', greater_again stations words p most is, greater_again stations words q most is') (is_before_again p.u p.v q.u q.v before.lesser before.greater)
 
@@ -123,7 +125,7 @@ rising_again k is (suc i) d lt =
     let next : i + 1 ≡ suc i = omega arith in
     let one : piece_at (keys_bytes k) k.words i ≡ pair_bytes (get_or k.pairs i d) = piece_stands k is i d (omega arith) in
     let other : piece_at (keys_bytes k) k.words (suc i) ≡ pair_bytes (get_or k.pairs (suc i) d) = piece_stands k is (suc i) d lt in
-    let rises : IsPairBefore (get_or k.pairs i d) (get_or k.pairs (suc i) d) = subst (λ (n : ℕ). IsPairBefore (get_or k.pairs i d) (get_or k.pairs n d)) next (is.rising i d (omega arith)) in
+    let rises : IsBefore (get_or k.pairs i d) (get_or k.pairs (suc i) d) = subst (λ (n : ℕ). IsBefore (get_or k.pairs i d) (get_or k.pairs n d)) next (is.rising i d (omega arith)) in
     let ends : is_before (ends_of (piece_at (keys_bytes k) k.words i)) (ends_of (piece_at (keys_bytes k) k.words (suc i))) ≡ true
     = rw (one, other) (before_again k.stations k.words (get_or k.pairs i d) (get_or k.pairs (suc i) d) is.most_stations (is.are_pairs i d (omega arith)) (is.are_pairs (suc i) d lt) rises) in
     rw (not_first, before) ends
@@ -140,29 +142,30 @@ pairs_again k is =
     ∙ sym (pair_again (keys_bytes k) k.stations k.words i (get_or k.pairs i a_pair) is.most_stations (is.are_pairs i a_pair lt) (piece_stands k is i a_pair lt) (rising_again k is i a_pair lt))) in
     ap all_or_first (sym each) ∙ all_again k.pairs
 
-body_again : (k : Keys) → IsKeys k → body_of (keys_bytes k) k.stations k.words (length k.pairs) ≡ Ok k
-unfolding body_of
+body_again : (k : Keys) → IsKeys k → keys_after_head (keys_bytes k) k.stations k.words (length k.pairs) ≡ Ok k
+unfolding keys_after_head
 body_again k is =
     let long = length-keys_bytes k is in
     let not_short : ltb (length (keys_bytes k)) (due_length k.words (length k.pairs)) ≡ false = le-ltb _ _ (omega arith) in
     let not_long : ltb (due_length k.words (length k.pairs)) (length (keys_bytes k)) ≡ false = le-ltb _ _ (omega arith) in
     rw (not_short, pairs_again k is, not_long) refl
 
-sized_again : (b : List ℕ) (k : Keys) → IsKeys k → sized b k.stations k.words (length k.pairs) ≡ body_of b k.stations k.words (length k.pairs)
-unfolding sized
+sized_again : (b : List ℕ) (k : Keys) → IsKeys k → keys_with_head b k.stations k.words (length k.pairs) ≡ keys_after_head b k.stations k.words (length k.pairs)
+unfolding keys_with_head
 sized_again b k is =
     let not_large : ltb (2 ^ 26) (length k.pairs * (32 * k.words)) ≡ false = le-ltb _ _ is.most_symbols in
     rw (within k.stations 256 is.some_stations is.most_stations, within k.words 4096 is.some_words is.most_words, not_large) refl
 
-head_again : (b : List ℕ) (stations words count : ℕ) → 12 ≤ length b → not (starts_with eqb b (codes "DCK")) ≡ false → get_or b 3 0 ≡ 1 → short_at b 4 ≡ stations → short_at b 6 ≡ words → number_at b 8 ≡ count → keys_of b ≡ sized b stations words count
-unfolding keys_of
+head_again : (b : List ℕ) (stations words count : ℕ) → 12 ≤ length b → not (starts_with eqb b (codes "DCK")) ≡ false → get_or b 3 0 ≡ 1 → short_at b 4 ≡ stations
+    → short_at b 6 ≡ words → number_at b 8 ≡ count → keys_from_bytes b ≡ keys_with_head b stations words count
+unfolding keys_from_bytes
 head_again b stations words count long magic version first second third =
     let not_short : ltb (length b) 12 ≡ false = le-ltb _ _ long in
     let one : eqb (get_or b 3 0) 1 ≡ true = eq-eqb _ _ version in
     rw (not_short, magic, one, first, second, third) refl
 
 -- what is spelled so is read
-pub keys_again : (k : Keys) → IsKeys k → keys_of (keys_bytes k) ≡ Ok k
+pub keys_again : (k : Keys) → IsKeys k → keys_from_bytes (keys_bytes k) ≡ Ok k
 keys_again k is =
     let stations : short_at (keys_bytes k) 4 ≡ k.stations = let most = is.most_stations in short_again (keys_bytes k) 4 k.stations (omega arith) refl in
     let words : short_at (keys_bytes k) 6 ≡ k.words = let most = is.most_words in short_again (keys_bytes k) 6 k.words (omega arith) refl in

@@ -15,17 +15,18 @@ use Rattle.dc_formats.specs.KeyFile.{IsKeys, pair_bytes, keys_bytes}
 use Rattle.dc_field.specs.declared.refusal.Refusal.{Refusal}
 use Rattle.dc_field.specs.Answers.{Answers}
 use Rattle.dc_keyfile.specs.declared.fault.KeyFault.{KeyFault}
-use Rattle.dc_keyfile.specs.Reading.{pair_size, due_length, piece_at, numbers_at, ended, body_of, sized, keys_of}
+use Rattle.dc_keyfile.specs.Reading.{pair_size, due_length, piece_at, numbers_at, ended, keys_after_head, keys_with_head, keys_from_bytes}
 use Rattle.std.proofs.lemmas.Bool.{not-false}
 use Rattle.std.proofs.lemmas.List.Folds.{flat_map-map}
 use Rattle.dc_spec.proofs.ByteLemmas.{IsBytes, IsBytes-piece, number_spelled, short_spelled, pieces}
-use Rattle.dc_field.proofs.ReaderTests.{passed, limits}
+use Rattle.dc_keyfile.proofs.ReaderTests.{passed, limits}
 use Rattle.dc_keyfile.proofs.PairsRead.{IsPadded, each_found, IsKeys-from_pairs}
 
 -- ---- a pair that was read
 
 -- so many numbers of a pair
-numbers_spelled : (piece : List ℕ) (index count : ℕ) → IsBytes piece → 4 + 4 * (index + count) ≤ length piece → flat_map symbol_bytes (numbers_at piece index count) ≡ take (4 * count) (drop (4 + 4 * index) piece)
+numbers_spelled : (piece : List ℕ) (index count : ℕ) → IsBytes piece → 4 + 4 * (index + count) ≤ length piece
+    → flat_map symbol_bytes (numbers_at piece index count) ≡ take (4 * count) (drop (4 + 4 * index) piece)
 numbers_spelled piece index count fits long =
     let here : 4 + 4 * index + 4 * 0 ≡ 4 + 4 * index = omega arith in
     let there : (i : ℕ) → 4 + 4 * (index + i) ≡ 4 + 4 * index + 4 * i = λ i. omega arith in
@@ -38,7 +39,8 @@ four : (a b c d w x y z : List ℕ) → a ≡ w → b ≡ x → c ≡ y → d �
 four a b c d w x y z p q r s = rw (p, q, r, s) (append_assoc (w ++ x) y z ∙ append_assoc w x (y ++ z))
 
 -- the four parts of a pair
-parts_of : (piece : List ℕ) (count : ℕ) → length piece ≡ 4 + 8 * count → take 2 (drop 0 piece) ++ (take 2 (drop 2 piece) ++ (take (4 * count) (drop (4 + 4 * 0) piece) ++ take (4 * count) (drop (4 + 4 * count) piece))) ≡ piece
+parts_of : (piece : List ℕ) (count : ℕ) → length piece ≡ 4 + 8 * count
+    → take 2 (drop 0 piece) ++ (take 2 (drop 2 piece) ++ (take (4 * count) (drop (4 + 4 * 0) piece) ++ take (4 * count) (drop (4 + 4 * count) piece))) ≡ piece
 parts_of piece count long =
     let pads : take (4 * count) (drop 4 piece) ++ take (4 * count) (drop (4 + 4 * count) piece) ≡ drop 4 piece
     = ap (λ (xs : List ℕ). take (4 * count) (drop 4 piece) ++ take (4 * count) xs) (sym (drop-drop (4 * count) 4 piece)) ∙ sym (take-add (4 * count) (4 * count) (drop 4 piece)) ∙ take_all (4 * count + 4 * count) (drop 4 piece) (omega (arith, length-drop 4 piece)) in
@@ -67,7 +69,8 @@ length_of_piece bytes words count i whole lt =
 a_pair : Pair
 a_pair = record { u = 0; v = 0; a = []; b = [] }
 
-pairs_spelled : (bytes : List ℕ) (words count : ℕ) (ps : List Pair) → IsBytes bytes → length bytes ≡ due_length words count → length ps ≡ count → ((k : ℕ) (d : Pair) → k < count → IsPadded (piece_at bytes words k) words (get_or ps k d)) → flat_map pair_bytes ps ≡ drop 12 bytes
+pairs_spelled : (bytes : List ℕ) (words count : ℕ) (ps : List Pair) → IsBytes bytes → length bytes ≡ due_length words count → length ps ≡ count
+    → ((k : ℕ) (d : Pair) → k < count → IsPadded (piece_at bytes words k) words (get_or ps k d)) → flat_map pair_bytes ps ≡ drop 12 bytes
 pairs_spelled bytes words count ps fits whole long each =
     let here : 12 + pair_size words * 0 ≡ 12 = omega arith in
     let items : ps ≡ map (λ i. get_or ps i a_pair) (range_with_len 0 count) = fill_by_all (λ i. get_or ps i a_pair) ps count a_pair long (λ k lt. refl) in
@@ -93,7 +96,8 @@ head_spelled b fits long magic version =
     four (codes "DCK" ++ 1 ∷ []) (to_be_bytes w16 (short_at b 4)) (to_be_bytes w16 (short_at b 6)) (to_be_bytes w32 (number_at b 8)) (take 4 b) (take 2 (drop 4 b)) (take 2 (drop 6 b)) (take 4 (drop 8 b))
     front (short_spelled b 4 fits (omega arith)) (short_spelled b 6 fits (omega arith)) (number_spelled b 8 fits (omega arith)) ∙ sym parts
 
-file_spelled : (b : List ℕ) (k : Keys) → IsBytes b → codes "DCK" ≡ take 3 b → get_or b 3 0 ≡ 1 → short_at b 4 ≡ k.stations → short_at b 6 ≡ k.words → number_at b 8 ≡ length k.pairs → 12 ≤ length b → flat_map pair_bytes k.pairs ≡ drop 12 b → b ≡ keys_bytes k
+file_spelled : (b : List ℕ) (k : Keys) → IsBytes b → codes "DCK" ≡ take 3 b → get_or b 3 0 ≡ 1 → short_at b 4 ≡ k.stations → short_at b 6 ≡ k.words
+    → number_at b 8 ≡ length k.pairs → 12 ≤ length b → flat_map pair_bytes k.pairs ≡ drop 12 b → b ≡ keys_bytes k
 file_spelled b k fits magic version stations words count long body =
     let head : head_of k.stations k.words (length k.pairs) ≡ take 12 b = rw (← stations, ← words, ← count) (head_spelled b fits long magic version) in
     sym (take-append-drop 12 b) ∙ sym (ap (λ (xs : List ℕ). xs ++ flat_map pair_bytes k.pairs) head ∙ ap (λ (xs : List ℕ). take 12 b ++ xs) body)
@@ -104,7 +108,8 @@ read_as k = Ok k
 same_keys : (j k : Keys) → read_as j ≡ read_as k → j ≡ k
 same_keys j k e = cc
 
-ended_well : (b : List ℕ) (stations words count : ℕ) (read : Result (List Pair) KeyFault) (k : Keys) → ended b stations words count read ≡ Ok k → (length b ≤ due_length words count) × (read ≡ Ok k.pairs) × (stations ≡ k.stations) × (words ≡ k.words)
+ended_well : (b : List ℕ) (stations words count : ℕ) (read : Result (List Pair) KeyFault) (k : Keys) → ended b stations words count read ≡ Ok k
+    → (length b ≤ due_length words count) × (read ≡ Ok k.pairs) × (stations ≡ k.stations) × (words ≡ k.words)
 ended_well b stations words count (Err fault) k e = absurd cc
 ended_well b stations words count (Ok pairs) k e =
     let made : Keys = record { stations = stations; words = words; pairs = pairs } in
@@ -113,8 +118,8 @@ ended_well b stations words count (Ok pairs) k e =
     (ltb-false _ _ end.0, ap (λ (r : Keys). Ok r.pairs) is, ap (λ (r : Keys). r.stations) is, ap (λ (r : Keys). r.words) is)
 
 -- what is read is spelled so
-pub keys_read : (b : List ℕ) (k : Keys) → IsBytes b → keys_of b ≡ Ok k → IsKeys k × (b ≡ keys_bytes k)
-unfolding keys_of sized body_of
+pub keys_read : (b : List ℕ) (k : Keys) → IsBytes b → keys_from_bytes b ≡ Ok k → IsKeys k × (b ≡ keys_bytes k)
+unfolding keys_from_bytes keys_with_head keys_after_head
 keys_read b k fits e =
     let long = passed (ltb (length b) 12) _ _ k e in
     let magic = passed (not (starts_with eqb b (codes "DCK"))) _ _ k long.1 in
@@ -138,6 +143,6 @@ keys_read b k fits e =
           (pairs_spelled b (short_at b 6) (number_at b 8) k.pairs fits length_is each.0 (λ p d lt. (each.1 p d lt).made)),
     )
 
-pub is_found : (b : List ℕ) (result : Result Keys (Refusal KeyFault)) → IsBytes b → Answers result (keys_of b) → IfOk result (λ k. IsKeys k × (b ≡ keys_bytes k))
+pub is_found : (b : List ℕ) (result : Result Keys (Refusal KeyFault)) → IsBytes b → Answers result (keys_from_bytes b) → IfOk result (λ k. IsKeys k × (b ≡ keys_bytes k))
 is_found b (Ok k) fits given = keys_read b k fits given
 is_found b (Err refusal) fits given = tt

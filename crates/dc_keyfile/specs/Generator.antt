@@ -11,12 +11,12 @@ abbrev pub pair_seed : List ℕ → ℕ → ℕ → List ℕ
 pair_seed base u v = take 28 base ++ to_be_bytes w16 u ++ to_be_bytes w16 v
 
 -- two words of a key's stream as one number of sixty-four bits, the first one high, modulo 65537
-abbrev pub symbol_at : List ℕ → ℕ → ℕ
-symbol_at key place = (word_at 10 key 0 place * 2 ^ 32 + word_at 10 key 0 (place + 1)) % 65537
+abbrev pub generated_symbol : List ℕ → ℕ → ℕ
+generated_symbol key place = (word_at 10 key 0 place * 2 ^ 32 + word_at 10 key 0 (place + 1)) % 65537
 
 -- element e of the pair (u, v)
 unfoldable pub element_at : List ℕ → ℕ → ℕ → ℕ → ℕ
-element_at base u v e = symbol_at (key_of (pair_seed base u v)) (2 * e)
+element_at base u v e = generated_symbol (key_of (pair_seed base u v)) (2 * e)
 
 -- first pads n of a session of so many symbols are elements n, second pads n are the elements after these, but for the first, which is 0
 abbrev pub generated_pair : List ℕ → ℕ → ℕ × ℕ → Pair

@@ -1,7 +1,8 @@
 -- Reading a key file: the tests of its bytes in their order, and what is read.
-use Rattle.std.specs.Prelude.{ℕ, ◌+◌, ◌-◌, ◌*◌, ◌^◌, Bool, not, ◌&&◌, ◌||◌, List, [], ◌∷◌, length, map, take, drop, slice_index, position, Option, Some, None, Result, Ok, Err, nat_eq, nat_lt, ◌==◌, if◌then◌else◌, codes}
+use Rattle.std.specs.Prelude.{ℕ, ◌+◌, ◌-◌, ◌*◌, Bool, not, ◌&&◌, ◌||◌, List, [], ◌∷◌, length, map, take, drop, slice_index, position, Option, Some, None, Result, Ok, Err, nat_eq, nat_lt, ◌==◌, if◌then◌else◌, codes}
 use Rattle.std.specs.List.{range_with_len, starts_with}
 use Rattle.dc_spec.specs.Bytes.{number_at, short_at}
+use Rattle.dc_spec.specs.Limits.{most_stations, most_words, most_pads}
 use Rattle.dc_spec.specs.Pads.{Pair, Keys}
 use Rattle.dc_keyfile.specs.declared.fault.KeyFault.{KeyFault}
 use Rattle.dc_keyfile.specs.declared.fault.KeyFault.TheVariants.{Truncated, Magic, Version, Stations, Words, TooLarge, Pair as NoPair, Order, Symbol, FirstSecondPad, Rest}
@@ -10,7 +11,7 @@ use Rattle.dc_keyfile.specs.declared.fault.KeyFault.TheVariants.{Truncated, Magi
 abbrev pub pair_size : ℕ → ℕ
 pair_size words = 4 + 128 * words
 
--- the length of a file of so many pairs
+-- the length of a file of this number of pairs
 abbrev pub due_length : ℕ → ℕ → ℕ
 due_length words count = 12 + pair_size words * count
 
@@ -22,7 +23,7 @@ piece_at bytes words p = take (pair_size words) (drop (due_length words p) bytes
 abbrev pub ends_of : List ℕ → ℕ × ℕ
 ends_of piece = (short_at piece 0, short_at piece 2)
 
--- whether ends are two of so many stations, the smaller one first
+-- whether ends are two of the stations, the smaller one first
 abbrev pub are_ends : ℕ → ℕ × ℕ → Bool
 are_ends stations e = nat_lt e.0 e.1 && nat_lt e.1 stations
 
@@ -34,18 +35,18 @@ is_before e f = nat_lt e.0 f.0 || (e.0 == f.0 && nat_lt e.1 f.1)
 abbrev pub is_rising : List ℕ → ℕ → ℕ → Bool
 is_rising bytes words p = p == 0 || is_before (ends_of (piece_at bytes words (p - 1))) (ends_of (piece_at bytes words p))
 
--- so many numbers of a pair, first and then second pads, from this index on
+-- the given number of numbers of a pair, first and then second pads, from this index on
 abbrev pub numbers_at : List ℕ → ℕ → ℕ → List ℕ
 numbers_at piece index count = map (λ n. number_at piece (4 + 4 * (index + n))) (range_with_len 0 count)
 
--- the numbers as pads, or the first of them that is no symbol
-abbrev pub judged : ℕ → ℕ → List ℕ → Option ℕ → Result (List ℕ) KeyFault
-judged p index numbers None = Ok numbers
-judged p index numbers (Some n) = Err (Symbol p (index + n) (slice_index numbers n))
+-- the numbers as pads, or the fault of the first one that is not a symbol
+abbrev pub pads_or_fault : ℕ → ℕ → List ℕ → Option ℕ → Result (List ℕ) KeyFault
+pads_or_fault p index numbers None = Ok numbers
+pads_or_fault p index numbers (Some n) = Err (Symbol p (index + n) (slice_index numbers n))
 
--- so many pads of a pair, each tested
+-- the given number of pads of a pair, each tested
 unfoldable pub pads_of : List ℕ → ℕ → ℕ → ℕ → Result (List ℕ) KeyFault
-pads_of piece p index count = judged p index (numbers_at piece index count) (position (λ x. nat_lt 65536 x) (numbers_at piece index count))
+pads_of piece p index count = pads_or_fault p index (numbers_at piece index count) (position (λ x. nat_lt 65536 x) (numbers_at piece index count))
 
 -- the pair, where its first second pad is 0
 abbrev pub with_second : ℕ × ℕ → ℕ → List ℕ → Result (List ℕ) KeyFault → Result Pair KeyFault
@@ -79,11 +80,11 @@ all_or_first [] = Ok []
 all_or_first (Err fault ∷ rest) = Err fault
 all_or_first (Ok pair ∷ rest) = put_first pair (all_or_first rest)
 
--- so many pairs, each tested
+-- the given number of pairs, each tested
 unfoldable pub pairs_of : List ℕ → ℕ → ℕ → ℕ → Result (List Pair) KeyFault
 pairs_of bytes stations words count = all_or_first (map (pair_of bytes stations words) (range_with_len 0 count))
 
--- the key file, where nothing stands after its pairs
+-- the keys, where no byte comes after the pairs
 abbrev pub ended : List ℕ → ℕ → ℕ → ℕ → Result (List Pair) KeyFault → Result Keys KeyFault
 ended bytes stations words count (Err fault) = Err fault
 ended bytes stations words count (Ok pairs) =
@@ -91,23 +92,23 @@ ended bytes stations words count (Ok pairs) =
     else Ok (record { stations = stations; words = words; pairs = pairs })
 
 -- the length is tested, then the pairs, then the end
-unfoldable pub body_of : List ℕ → ℕ → ℕ → ℕ → Result Keys KeyFault
-body_of bytes stations words count =
+unfoldable pub keys_after_head : List ℕ → ℕ → ℕ → ℕ → Result Keys KeyFault
+keys_after_head bytes stations words count =
     if nat_lt (length bytes) (due_length words count) then Err (Truncated (length bytes) (due_length words count))
     else ended bytes stations words count (pairs_of bytes stations words count)
 
 -- the three numbers of the head are tested, then the body
-unfoldable pub sized : List ℕ → ℕ → ℕ → ℕ → Result Keys KeyFault
-sized bytes stations words count =
-    if stations == 0 || nat_lt 256 stations then Err (Stations stations)
-    else if words == 0 || nat_lt 4096 words then Err (Words words)
-    else if nat_lt (2 ^ 26) (count * (32 * words)) then Err (TooLarge (count * (32 * words)))
-    else body_of bytes stations words count
+unfoldable pub keys_with_head : List ℕ → ℕ → ℕ → ℕ → Result Keys KeyFault
+keys_with_head bytes stations words count =
+    if stations == 0 || nat_lt most_stations stations then Err (Stations stations)
+    else if words == 0 || nat_lt most_words words then Err (Words words)
+    else if nat_lt most_pads (count * (32 * words)) then Err (TooLarge (count * (32 * words)))
+    else keys_after_head bytes stations words count
 
--- the key file that bytes spell, or their first fault
-unfoldable pub keys_of : List ℕ → Result Keys KeyFault
-keys_of bytes =
+-- the keys that bytes spell, or their first fault
+unfoldable pub keys_from_bytes : List ℕ → Result Keys KeyFault
+keys_from_bytes bytes =
     if nat_lt (length bytes) 12 then Err (Truncated (length bytes) 12)
     else if not (starts_with nat_eq bytes (codes "DCK")) then Err Magic
     else if not (slice_index bytes 3 == 1) then Err (Version (slice_index bytes 3))
-    else sized bytes (short_at bytes 4) (short_at bytes 6) (number_at bytes 8)
+    else keys_with_head bytes (short_at bytes 4) (short_at bytes 6) (number_at bytes 8)

@@ -1,30 +1,30 @@
-//! Why bytes are no key file.
+//! Why bytes are not a key file.
 
-/// The first fault of a key file, by the order of its tests.
+/// The first fault of a key file, by the order of its tests. The format is this project's own.
 #[derive(Clone, Copy, Debug, PartialEq, Eq)]
 pub enum KeyFault {
     /// The bytes end early.
     Truncated {
         /// How many bytes there are.
         at: u64,
-        /// How many there have to be.
+        /// How many are needed.
         need: u64,
     },
     /// The first three bytes are not `DCK`.
     Magic,
     /// The version is not 1.
     Version {
-        /// The version that is told.
+        /// The version in the file.
         seen: u8,
     },
-    /// There are 1 to 256 stations.
+    /// The number of stations is not 1 to 256.
     Stations {
-        /// The number that is told.
+        /// The number in the file.
         seen: u16,
     },
-    /// There are 1 to 4096 words.
+    /// The number of words is not 1 to 4096.
     Words {
-        /// The number that is told.
+        /// The number in the file.
         seen: u16,
     },
     /// All pads together are more than 2^26.
@@ -32,7 +32,7 @@ pub enum KeyFault {
         /// How many they would be.
         symbols: u64,
     },
-    /// The first end is not below the second, or the second is no station.
+    /// The first end is not below the second, or the second is not a station.
     Pair {
         /// The place of the pair, from 0.
         place: u32,
@@ -48,7 +48,7 @@ pub enum KeyFault {
         pair: u32,
         /// Which of its pads, from 0, the first pads before the second.
         index: u32,
-        /// The number that stands there.
+        /// The number in its place.
         seen: u32,
     },
     /// The first second pad is not 0.

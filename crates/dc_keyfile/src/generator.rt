@@ -3,8 +3,9 @@
 ghost use Rattle.std.specs.Prelude.{◌≡◌, ◌+◌, ◌*◌, ◌^◌, ◌<◌, ◌≤◌, ◌++◌, take, drop, map, length, IfOk, All};
 ghost use Rattle.std.specs.List.{range_with_len};
 ghost use Rattle.std.specs.Int.{w16, to_be_bytes};
+ghost use Rattle.dc_spec.specs.Limits.{most_pads, most_words};
 ghost use Rattle.dc_spec.specs.Words.{IsSymbol};
-ghost use Rattle.dc_keyfile.specs.Generator.{pair_seed, symbol_at, element_at, generated_pair, generated_keys};
+ghost use Rattle.dc_keyfile.specs.Generator.{pair_seed, generated_symbol, element_at, generated_pair, generated_keys};
 
 use dc_field::{NoMemory, Sym, Syms};
 use dc_graph::Graph;
@@ -14,7 +15,9 @@ use rand_core::SeedableRng;
 use rand_core::utils::NextWord;
 use std::alloc::Global;
 
-/// Element `e` of the pair of stations `u` and `v`, wherever it stands in the stream.
+/// Element `e` of the pair of stations `u` and `v`: two words of ChaCha20, with the numbers of the
+/// two stations in the last four bytes of the base seed, modulo 65537. The rule is this project's
+/// own.
 pub fn element(base: &[u8; 32], u: u16, v: u16, e: u32) -> Sym
     ensures { result ≡ element_at base.now u v e }
 {
@@ -23,11 +26,12 @@ pub fn element(base: &[u8; 32], u: u16, v: u16, e: u32) -> Sym
     Sym::new(next_symbol(&mut stream)).unwrap()
 }
 
-/// The key file that a base seed gives the edges of a key graph, for a session of so many words.
+/// The keys that a base seed gives the edges of a key graph, for a session of `words` words: for
+/// each edge sixteen first and sixteen second pads a word. The rule is this project's own.
 pub fn generate(alloc: Global, base: &[u8; 32], g: &Graph, words: u16) -> Result<KeyFile, NoMemory>
     requires some_words { 1 ≤ words }
-    requires most_words { words ≤ 4096 }
-    requires most_symbols { length g.now.edges * (32 * words) ≤ 2 ^ 26 }
+    requires most_words { words ≤ most_words }
+    requires most_symbols { length g.now.edges * (32 * words) ≤ most_pads }
     ensures { IfOk result (λ f. f ≡ generated_keys base.now g.now words) }
 {
     let pairs = generate_pairs(alloc, base, g, words)?;
@@ -41,7 +45,7 @@ pub fn generate(alloc: Global, base: &[u8; 32], g: &Graph, words: u16) -> Result
 /// A pair for each edge, in the order of the edges.
 fn generate_pairs(alloc: Global, base: &[u8; 32], g: &Graph, words: u16) -> Result<Pairs, NoMemory>
     requires some_words { 1 ≤ words }
-    requires most_words { words ≤ 4096 }
+    requires most_words { words ≤ most_words }
     ensures { IfOk result (λ ps. ps ≡ map (generated_pair base.now (16 * words)) g.now.edges) }
 {
     let count = g.edge_count();
@@ -53,7 +57,7 @@ fn generate_pairs(alloc: Global, base: &[u8; 32], g: &Graph, words: u16) -> Resu
 }
 
 /// The pads of an edge, in the order of its stream. The element in the place of the first second
-/// pad is passed over.
+/// pad is not used.
 fn generate_pair(
     alloc: Global,
     base: &[u8; 32],
@@ -61,7 +65,7 @@ fn generate_pair(
     words: u16,
 ) -> Result<PairKey, NoMemory>
     requires some_words { 1 ≤ words }
-    requires most_words { words ≤ 4096 }
+    requires most_words { words ≤ most_words }
     ensures { IfOk result (λ p. p ≡ generated_pair base.now (16 * words) edge) }
 {
     let count = 16 * usize::from(words);
@@ -96,13 +100,15 @@ fn put_short(seed: &mut [u8; 32], at: usize, x: u16)
     seed[at..at + 2].copy_from_slice(&two);
 }
 
-/// So many symbols from where a stream stands on.
+/// The next symbols of a stream, as many as `count`.
 fn next_symbols(alloc: Global, stream: &mut ChaCha20Rng, count: usize) -> Result<Vec<u32>, NoMemory>
     requires first_stream { stream.old.stream ≡ 0 }
     requires room { stream.old.word_pos + 2 * count < 2 ^ 64 }
-    ensures items { IfOk result (λ v. v.items ≡ map (λ n. symbol_at stream.old.key (stream.old.word_pos + 2 * n)) (range_with_len 0 count)) }
+    ensures items { IfOk result (λ v. v.items ≡
+        map (λ n. generated_symbol stream.old.key (stream.old.word_pos + 2 * n)) (range_with_len 0 count)) }
     ensures symbols { IfOk result (λ v. All IsSymbol v.items) }
-    ensures moved { IfOk result (λ v. stream.new ≡ record stream.old { word_pos = stream.old.word_pos + 2 * count }) }
+    ensures moved { IfOk result (λ v. stream.new ≡
+        record stream.old { word_pos = stream.old.word_pos + 2 * count }) }
 {
     let mut symbols = Vec::with_capacity(alloc, count)?;
     for _ in 0..count {
@@ -115,7 +121,7 @@ fn next_symbols(alloc: Global, stream: &mut ChaCha20Rng, count: usize) -> Result
 fn next_symbol(stream: &mut ChaCha20Rng) -> u32
     requires first_stream { stream.old.stream ≡ 0 }
     requires room { stream.old.word_pos + 2 < 2 ^ 64 }
-    ensures value { result ≡ symbol_at stream.old.key stream.old.word_pos }
+    ensures value { result ≡ generated_symbol stream.old.key stream.old.word_pos }
     ensures symbol { IsSymbol result }
     ensures moved { stream.new ≡ record stream.old { word_pos = stream.old.word_pos + 2 } }
 {

@@ -10,6 +10,3 @@ pub use fault::KeyFault;
 pub use generator::{element, generate};
 pub use reading::read_keys;
 pub use writing::key_bytes;
-
-#[cfg(test)]
-mod tests;

@@ -2,33 +2,45 @@
 
 ghost use Rattle.std.specs.Prelude.{◌≡◌, ◌+◌, ◌*◌, ◌^◌, ◌<◌, ◌≤◌, length, IfOk, Ok};
 ghost use Rattle.dc_spec.specs.Bytes.{number_at};
+ghost use Rattle.dc_spec.specs.Limits.{most_pads, most_stations, most_words};
 ghost use Rattle.dc_spec.specs.Pads.{Keys};
 ghost use Rattle.dc_formats.specs.KeyFile.{IsKeys, keys_bytes};
 ghost use Rattle.dc_field.specs.Answers.{Answers};
-ghost use Rattle.dc_keyfile.specs.Reading.{pair_size, due_length, piece_at, ends_of, are_ends, is_before, is_rising, pads_of, padded, pair_of, pairs_of, body_of, sized, keys_of};
+ghost use Rattle.dc_keyfile.specs.Reading.{pair_size, due_length, piece_at, ends_of, are_ends, is_before, is_rising, pads_of, padded, pair_of, pairs_of, keys_after_head, keys_with_head, keys_from_bytes};
 
 use crate::fault::KeyFault;
 use dc_field::{Refusal, Syms};
 use dc_keys::{KeyFile, PairKey, Pairs};
 use std::alloc::Global;
 
-/// The key file that bytes hold. Memory is taken only once there are as many bytes as the head
-/// says.
+/// How many stations a key file has at most.
+const MOST_STATIONS: u16 = 256;
+
+/// How many words a key file has pads for at most.
+const MOST_WORDS: u16 = 4096;
+
+/// How many first and second pads a key file has at most, all pairs together.
+const MOST_PADS: u64 = 67108864;
+
+/// The keys that the bytes of a key file spell, or the first fault.
+///
+/// A key file is this project's own format, version 1. No memory is taken before there are as many
+/// bytes as the head requires.
 pub fn read_keys(alloc: Global, b: &[u8]) -> Result<KeyFile, Refusal<KeyFault>>
-    // What is read, or the first fault by the order of the tests.
-    ensures exact { Answers result (keys_of b.now) }
-    // What is read is spelled so.
+    // The keys, or the first fault by the order of the tests.
+    ensures exact { Answers result (keys_from_bytes b.now) }
+    // The keys that are read keep the limits, and the bytes are their spelling.
     ensures found { IfOk result (λ k. IsKeys k × (b.now ≡ keys_bytes k)) }
-    // What is spelled so is read.
+    // The spelling of all keys within the limits is read as those keys.
     ensures only { (k : Keys) → IsKeys k → b.now ≡ keys_bytes k → Answers result (Ok k) }
 {
     read_head(alloc, b)
 }
 
-/// Judges the first twelve bytes, then reads on.
-#[tactic(auto, unfolding(crate::specs::Reading::keys_of))]
+/// Tests the first eight bytes, then reads on.
+#[tactic(auto, unfolding(crate::specs::Reading::keys_from_bytes))]
 fn read_head(alloc: Global, b: &[u8]) -> Result<KeyFile, Refusal<KeyFault>>
-    ensures { Answers result (keys_of b.now) }
+    ensures { Answers result (keys_from_bytes b.now) }
 {
     if b.len() < 12 {
         return Err(Refusal::Bad(KeyFault::Truncated {
@@ -48,8 +60,8 @@ fn read_head(alloc: Global, b: &[u8]) -> Result<KeyFile, Refusal<KeyFault>>
     read_sized(alloc, b, stations, words, count)
 }
 
-/// Judges the three numbers of the head, then reads on.
-#[tactic(auto, unfolding(crate::specs::Reading::sized))]
+/// Tests the three numbers of the head, then reads on.
+#[tactic(auto, unfolding(crate::specs::Reading::keys_with_head))]
 fn read_sized(
     alloc: Global,
     b: &[u8],
@@ -57,23 +69,23 @@ fn read_sized(
     words: u16,
     count: u32,
 ) -> Result<KeyFile, Refusal<KeyFault>>
-    ensures { Answers result (sized b.now stations words count) }
+    ensures { Answers result (keys_with_head b.now stations words count) }
 {
-    if stations == 0 || 256 < stations {
+    if stations == 0 || MOST_STATIONS < stations {
         return Err(Refusal::Bad(KeyFault::Stations { seen: stations }));
     }
-    if words == 0 || 4096 < words {
+    if words == 0 || MOST_WORDS < words {
         return Err(Refusal::Bad(KeyFault::Words { seen: words }));
     }
     let symbols = u64::from(count) * (32 * u64::from(words));
-    if 67108864 < symbols {
+    if MOST_PADS < symbols {
         return Err(Refusal::Bad(KeyFault::TooLarge { symbols }));
     }
     read_body(alloc, b, stations, words, count as usize)
 }
 
-/// Judges the length, then the pairs, then the end.
-#[tactic(auto, unfolding(crate::specs::Reading::body_of))]
+/// Tests the length, then the pairs, then the end.
+#[tactic(auto, unfolding(crate::specs::Reading::keys_after_head))]
 fn read_body(
     alloc: Global,
     b: &[u8],
@@ -82,11 +94,11 @@ fn read_body(
     count: usize,
 ) -> Result<KeyFile, Refusal<KeyFault>>
     requires some_stations { 1 ≤ stations }
-    requires most_stations { stations ≤ 256 }
+    requires most_stations { stations ≤ most_stations }
     requires some_words { 1 ≤ words }
-    requires most_words { words ≤ 4096 }
-    requires most_symbols { count * (32 * words) ≤ 2 ^ 26 }
-    ensures { Answers result (body_of b.now stations words count) }
+    requires most_words { words ≤ most_words }
+    requires most_symbols { count * (32 * words) ≤ most_pads }
+    ensures { Answers result (keys_after_head b.now stations words count) }
 {
     let due = 12 + (4 + 128 * usize::from(words)) * count;
     if b.len() < due {
@@ -106,7 +118,7 @@ fn read_body(
     })
 }
 
-/// The pairs after the head, in room taken once.
+/// The pairs after the head, in memory taken once.
 fn read_pairs(
     alloc: Global,
     b: &[u8],
@@ -115,7 +127,7 @@ fn read_pairs(
     count: usize,
 ) -> Result<Pairs, Refusal<KeyFault>>
     requires some_words { 1 ≤ words }
-    requires most_words { words ≤ 4096 }
+    requires most_words { words ≤ most_words }
     requires most_pairs { count < 2 ^ 32 }
     requires long_enough { due_length words count ≤ length b.now }
     ensures { Answers result (pairs_of b.now stations words count) }
@@ -127,7 +139,7 @@ fn read_pairs(
     Ok(Pairs::from_vec(pairs))
 }
 
-/// Judges the ends of the pair at a place, then reads its pads.
+/// Tests the ends of the pair at a place, then reads its pads.
 #[tactic(auto, unfolding(crate::specs::Reading::pair_of))]
 fn read_pair(
     alloc: Global,
@@ -137,7 +149,7 @@ fn read_pair(
     place: usize,
 ) -> Result<PairKey, Refusal<KeyFault>>
     requires some_words { 1 ≤ words }
-    requires most_words { words ≤ 4096 }
+    requires most_words { words ≤ most_words }
     requires places { place < 2 ^ 32 }
     requires long_enough { due_length words (place + 1) ≤ length b.now }
     ensures { Answers result (pair_of b.now stations words place) }
@@ -165,7 +177,7 @@ fn read_padded(
     place: usize,
 ) -> Result<PairKey, Refusal<KeyFault>>
     requires some_words { 1 ≤ words }
-    requires most_words { words ≤ 4096 }
+    requires most_words { words ≤ most_words }
     requires places { place < 2 ^ 32 }
     requires whole { length piece.now ≡ pair_size words }
     ensures { Answers result (padded piece.now words place) }
@@ -180,7 +192,7 @@ fn read_padded(
     Ok(PairKey { u, v, a, b })
 }
 
-/// So many pads of a pair from an index on, in room taken once.
+/// The given number of pads of a pair from an index on, in memory taken once.
 fn read_pads(
     alloc: Global,
     piece: &[u8],
@@ -238,7 +250,7 @@ fn ends(piece: &[u8]) -> (u16, u16)
     (u, v)
 }
 
-/// Whether ends are two of so many stations, the smaller one first.
+/// Whether the ends are two stations, the smaller one first.
 fn are_ends(stations: u16, ends: (u16, u16)) -> bool
     ensures { result ≡ are_ends stations ends }
 {

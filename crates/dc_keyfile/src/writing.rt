@@ -5,16 +5,16 @@ ghost use Rattle.std.specs.List.{flat_map};
 ghost use Rattle.std.specs.Int.{w16, w32, to_be_bytes};
 ghost use Rattle.dc_spec.specs.Bytes.{symbol_bytes};
 ghost use Rattle.dc_formats.specs.KeyFile.{pair_bytes, keys_bytes};
-ghost use Rattle.dc_keyfile.specs.Reading.{keys_of};
+ghost use Rattle.dc_keyfile.specs.Reading.{keys_from_bytes};
 
 use dc_field::{Bytes, NoMemory};
 use dc_keys::{KeyFile, PairKey};
 use std::alloc::Global;
 
-/// The bytes of a key file, in room taken once.
+/// The bytes of a key file, in memory taken once.
 pub fn key_bytes(alloc: Global, f: &KeyFile) -> Result<Bytes, NoMemory>
     ensures written { IfOk result (λ b. b ≡ keys_bytes f.now) }
-    ensures read { IfOk result (λ b. keys_of b ≡ Ok f.now) }
+    ensures read { IfOk result (λ b. keys_from_bytes b ≡ Ok f.now) }
 {
     let pairs = f.pairs.as_slice();
     let size = 4 + 128 * usize::from(f.words);
@@ -26,7 +26,8 @@ pub fn key_bytes(alloc: Global, f: &KeyFile) -> Result<Bytes, NoMemory>
 
 /// Puts the first twelve bytes.
 fn put_head(bytes: &mut Vec<u8>, stations: u16, words: u16, count: u32) -> Result<(), NoMemory>
-    ensures { OnOk result (bytes.new.items ≡ bytes.old.items ++ (codes "DCK" ++ 1 ∷ [] ++ to_be_bytes w16 stations ++ to_be_bytes w16 words ++ to_be_bytes w32 count)) }
+    ensures { OnOk result (bytes.new.items ≡ bytes.old.items ++ (codes "DCK" ++ 1 ∷ [] ++
+        to_be_bytes w16 stations ++ to_be_bytes w16 words ++ to_be_bytes w32 count)) }
 {
     bytes.extend_from_slice(b"DCK\x01")?;
     bytes.extend_from_slice(&stations.to_be_bytes())?;

@@ -9,7 +9,7 @@ use Rattle.std.proofs.lemmas.List.{length-append, length-map, map-append, get_or
 use Rattle.std.proofs.lemmas.List.Elements.{All-append, All-nil, All-cons}
 use Rattle.dc_spec.specs.Words.{IsWord}
 use Rattle.dc_formats.specs.ScriptFile.{AreStationWords}
-use Rattle.dc_script.specs.Turns.{is_next}
+use Rattle.dc_script.specs.Turns.{is_above_last}
 use Rattle.dc_script.specs.Items.{IsEntry}
 
 -- one number more
@@ -30,7 +30,7 @@ abbrev pub stations : List (ℕ × List ℕ) → List ℕ
 stations es = map (λ d. d.0) es
 
 -- the test of the last one
-pub next_above : (i : ℕ) (es : List (ℕ × List ℕ)) → is_next i es ≡ true → 0 < length (stations es) → get_or (stations es) (length (stations es) - 1) 0 < i
+pub next_above : (i : ℕ) (es : List (ℕ × List ℕ)) → is_above_last i es ≡ true → 0 < length (stations es) → get_or (stations es) (length (stations es) - 1) 0 < i
 next_above i [] e lt = absurd (omega arith)
 next_above i (x ∷ es) e lt =
     let same : length (stations (x ∷ es)) ≡ length (x ∷ es) = length-map (x ∷ es) (λ (d : ℕ × List ℕ). d.0) in
@@ -40,7 +40,7 @@ next_above i (x ∷ es) e lt =
     rw (same, last) (ltb-true _ _ greater)
 
 -- one more station that is greater than the last
-pub one_more_entry : (es : List (ℕ × List ℕ)) (e : ℕ × List ℕ) → AreStationWords es → is_next e.0 es ≡ true → IsEntry e → AreStationWords (es ++ e ∷ [])
+pub one_more_entry : (es : List (ℕ × List ℕ)) (e : ℕ × List ℕ) → AreStationWords es → is_above_last e.0 es ≡ true → IsEntry e → AreStationWords (es ++ e ∷ [])
 one_more_entry es e are next is = record {
   rising = subst IsStrictlyIncreasing (sym (map-append (λ (d : ℕ × List ℕ). d.0) es (e ∷ []))) (rising_more (stations es) e.0 are.rising (next_above e.0 es next));
   stations = All-append (λ (d : ℕ × List ℕ). d.0 < 65536) es (e ∷ []) are.stations (All-cons (λ (d : ℕ × List ℕ). d.0 < 65536) e [] is.0 (All-nil (λ (d : ℕ × List ℕ). d.0 < 65536)));

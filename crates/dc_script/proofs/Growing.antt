@@ -17,7 +17,7 @@ use Rattle.dc_script.specs.declared.fault.ScriptKind.TheVariants.{Round, TooMany
 use Rattle.dc_script.specs.declared.item.Item.{Item}
 use Rattle.dc_script.specs.declared.item.Item.TheVariants.{RoundLine, SayLine, AllLine, ToLine}
 use Rattle.dc_script.specs.Items.{item_text, entry_text, IsEntry, IsItem}
-use Rattle.dc_script.specs.Turns.{begun_turn, is_undelivered, is_waiting, is_next, told_count, with_round, with_say, with_all, with_to, with_item}
+use Rattle.dc_script.specs.Turns.{begun_turn, is_undelivered, is_waiting, is_above_last, reported_count, with_round, with_say, with_all, with_to, with_item}
 use Rattle.dc_script.proofs.Putting.{lines_from, lines_from-append}
 use Rattle.dc_script.proofs.LastTurn.{waits, say_at, all_at, to_at, to_sum}
 use Rattle.dc_script.proofs.Entries.{one_more_entry, no_entries}
@@ -119,21 +119,22 @@ begun_part = record { said = no_entries; dealt_words = λ dealt e. let same : []
 -- a round's line
 round_lines : (turns : List Turn) (r : ℕ) (new : List Turn) → with_round turns r ≡ Ok new → lines_from 0 new ≡ lines_from 0 turns ++ line (codes "round " ++ decimal r)
 round_lines turns r new e =
-    let told = after_three (is_waiting turns) (not (r == length turns)) (nat_le 4096 (length turns)) Missing (Round r (told_count (length turns))) TooMany (turns ++ begun_turn ∷ []) new e in
+    let told = after_three (is_waiting turns) (not (r == length turns)) (nat_le 4096 (length turns)) Missing (Round r (reported_count (length turns))) TooMany (turns ++ begun_turn ∷ []) new e in
     let number : r ≡ length turns = eqb-true _ _ (not-false _ told.1) in
     ap (lines_from 0) (sym told.3) ∙ last_lines turns begun_turn ∙ rw (← number) (ap (λ (ls : List ℕ). lines_from 0 turns ++ ls) (append-nil _ ∙ append-nil _))
 
 round_so_far : (turns : List Turn) (r : ℕ) (new : List Turn) → SoFar turns → with_round turns r ≡ Ok new → SoFar new
 round_so_far turns r new so e =
-    let told = after_three (is_waiting turns) (not (r == length turns)) (nat_le 4096 (length turns)) Missing (Round r (told_count (length turns))) TooMany (turns ++ begun_turn ∷ []) new e in
+    let told = after_three (is_waiting turns) (not (r == length turns)) (nat_le 4096 (length turns)) Missing (Round r (reported_count (length turns))) TooMany (turns ++ begun_turn ∷ []) new e in
     inr (record { done = turns; last = begun_turn; is = sym told.3; few = leb-false _ _ told.2; are_turns = all_done turns so told.0; is_part = begun_part })
 
 -- ---- lines that change the last turn
 
 -- the lines of a last turn in progress, and one that is said
-say_lines : (done : List Turn) (t : Turn) (e : ℕ × List ℕ) (new : List Turn) → with_say (done ++ t ∷ []) e ≡ Ok new → lines_from 0 new ≡ lines_from 0 (done ++ t ∷ []) ++ line (entry_text (codes "say ") e)
+say_lines : (done : List Turn) (t : Turn) (e : ℕ × List ℕ) (new : List Turn) → with_say (done ++ t ∷ []) e ≡ Ok new
+    → lines_from 0 new ≡ lines_from 0 (done ++ t ∷ []) ++ line (entry_text (codes "say ") e)
 say_lines done t e new h =
-    let told = after_two (is_undelivered t.delivery) (not (is_next e.0 t.says)) (Order e.0) Misplaced (done ++ record { says = t.says ++ e ∷ []; delivery = t.delivery } ∷ []) new (sym (say_at done t e) ∙ h) in
+    let told = after_two (is_undelivered t.delivery) (not (is_above_last e.0 t.says)) (Order e.0) Misplaced (done ++ record { says = t.says ++ e ∷ []; delivery = t.delivery } ∷ []) new (sym (say_at done t e) ∙ h) in
     let none : t.delivery ≡ each [] = told_each t.delivery told.0 in
     ap (lines_from 0) (sym told.2) ∙ grown_lines done t (record { says = t.says ++ e ∷ []; delivery = t.delivery }) (line (entry_text (codes "say ") e))
     (ap (λ (d : Delivery). turn_lines (length done) (record { says = t.says ++ e ∷ []; delivery = d })) none
@@ -150,10 +151,11 @@ sum_lines done t new h =
     ∙ ap (λ (d : Delivery). turn_lines (length done) (record { says = t.says; delivery = d }) ++ line (codes "all")) (sym none))
 
 -- one more word dealt
-to_lines : (done : List Turn) (says : List (ℕ × List ℕ)) (d : Delivery) (e : ℕ × List ℕ) (new : List Turn) → with_to (done ++ record { says = says; delivery = d } ∷ []) e ≡ Ok new → lines_from 0 new ≡ lines_from 0 (done ++ record { says = says; delivery = d } ∷ []) ++ line (entry_text (codes "to ") e)
+to_lines : (done : List Turn) (says : List (ℕ × List ℕ)) (d : Delivery) (e : ℕ × List ℕ) (new : List Turn) → with_to (done ++ record { says = says; delivery = d } ∷ []) e ≡ Ok new
+    → lines_from 0 new ≡ lines_from 0 (done ++ record { says = says; delivery = d } ∷ []) ++ line (entry_text (codes "to ") e)
 to_lines done says all_sum e new h = let no : Err Misplaced ≡ Ok new = sym (to_sum done says e) ∙ h in absurd cc
 to_lines done says (each dealt) e new h =
-    let told = after_one (not (is_next e.0 dealt)) (Order e.0) (done ++ record { says = says; delivery = each (dealt ++ e ∷ []) } ∷ []) new (sym (to_at done says dealt e) ∙ h) in
+    let told = after_one (not (is_above_last e.0 dealt)) (Order e.0) (done ++ record { says = says; delivery = each (dealt ++ e ∷ []) } ∷ []) new (sym (to_at done says dealt e) ∙ h) in
     ap (lines_from 0) (sym told.1) ∙ grown_lines done (record { says = says; delivery = each dealt }) (record { says = says; delivery = each (dealt ++ e ∷ []) }) (line (entry_text (codes "to ") e))
     (dealt_lines (line (codes "round " ++ decimal (length done)) ++ flat_map (λ s. station_word_line (codes "say ") s.0 s.1) says) (λ d. station_word_line (codes "to ") d.0 d.1) dealt e)
 
@@ -189,10 +191,11 @@ item_lines turns (ToLine e) new h = elim (last_or_none turns) [
 ]
 
 -- a part with one more entry
-more_said : (t : Turn) (e : ℕ × List ℕ) → IsPart t → is_next e.0 t.says ≡ true → IsEntry e → IsPart (record { says = t.says ++ e ∷ []; delivery = t.delivery })
+more_said : (t : Turn) (e : ℕ × List ℕ) → IsPart t → is_above_last e.0 t.says ≡ true → IsEntry e → IsPart (record { says = t.says ++ e ∷ []; delivery = t.delivery })
 more_said t e part next is = record { said = one_more_entry t.says e part.said next is; dealt_words = part.dealt_words }
 
-more_dealt : (says dealt : List (ℕ × List ℕ)) (e : ℕ × List ℕ) → IsPart (record { says = says; delivery = each dealt }) → is_next e.0 dealt ≡ true → IsEntry e → IsPart (record { says = says; delivery = each (dealt ++ e ∷ []) })
+more_dealt : (says dealt : List (ℕ × List ℕ)) (e : ℕ × List ℕ) → IsPart (record { says = says; delivery = each dealt }) → is_above_last e.0 dealt ≡ true → IsEntry e
+    → IsPart (record { says = says; delivery = each (dealt ++ e ∷ []) })
 more_dealt says dealt e part next is = record {
   said = part.said;
   dealt_words = λ ds same. let is_that : dealt ++ e ∷ [] ≡ ds = cc in subst AreStationWords is_that (one_more_entry dealt e (part.dealt_words dealt refl) next is);
@@ -201,7 +204,7 @@ more_dealt says dealt e part next is = record {
 -- the turns with one more entry said
 say_so_far : (turns : List Turn) (ends : Ends turns) (e : ℕ × List ℕ) (new : List Turn) → IsEntry e → with_say (ends.done ++ ends.last ∷ []) e ≡ Ok new → SoFar new
 say_so_far turns ends e new is h =
-    let told = after_two (is_undelivered ends.last.delivery) (not (is_next e.0 ends.last.says)) (Order e.0) Misplaced (ends.done ++ record { says = ends.last.says ++ e ∷ []; delivery = ends.last.delivery } ∷ []) new (sym (say_at ends.done ends.last e) ∙ h) in
+    let told = after_two (is_undelivered ends.last.delivery) (not (is_above_last e.0 ends.last.says)) (Order e.0) Misplaced (ends.done ++ record { says = ends.last.says ++ e ∷ []; delivery = ends.last.delivery } ∷ []) new (sym (say_at ends.done ends.last e) ∙ h) in
     inr (record { done = ends.done; last = record { says = ends.last.says ++ e ∷ []; delivery = ends.last.delivery }; is = sym told.2; few = ends.few; are_turns = ends.are_turns; is_part = more_said ends.last e ends.is_part (not-false _ told.1) is })
 
 sum_so_far : (turns : List Turn) (ends : Ends turns) (new : List Turn) → with_all (ends.done ++ ends.last ∷ []) ≡ Ok new → SoFar new
@@ -209,10 +212,11 @@ sum_so_far turns ends new h =
     let told = one_chosen (is_undelivered ends.last.delivery) Misplaced (ends.done ++ record { says = ends.last.says; delivery = all_sum } ∷ []) new (sym (all_at ends.done ends.last) ∙ h) in
     inr (record { done = ends.done; last = record { says = ends.last.says; delivery = all_sum }; is = sym told.1; few = ends.few; are_turns = ends.are_turns; is_part = record { said = ends.is_part.said; dealt_words = λ ds same. absurd cc } })
 
-to_so_far : (done : List Turn) (says : List (ℕ × List ℕ)) (d : Delivery) (e : ℕ × List ℕ) (new : List Turn) → length done < 4096 → All IsTurn done → IsPart (record { says = says; delivery = d }) → IsEntry e → with_to (done ++ record { says = says; delivery = d } ∷ []) e ≡ Ok new → SoFar new
+to_so_far : (done : List Turn) (says : List (ℕ × List ℕ)) (d : Delivery) (e : ℕ × List ℕ) (new : List Turn) → length done < 4096 → All IsTurn done
+    → IsPart (record { says = says; delivery = d }) → IsEntry e → with_to (done ++ record { says = says; delivery = d } ∷ []) e ≡ Ok new → SoFar new
 to_so_far done says all_sum e new few are part is h = let no : Err Misplaced ≡ Ok new = sym (to_sum done says e) ∙ h in absurd cc
 to_so_far done says (each dealt) e new few are part is h =
-    let told = after_one (not (is_next e.0 dealt)) (Order e.0) (done ++ record { says = says; delivery = each (dealt ++ e ∷ []) } ∷ []) new (sym (to_at done says dealt e) ∙ h) in
+    let told = after_one (not (is_above_last e.0 dealt)) (Order e.0) (done ++ record { says = says; delivery = each (dealt ++ e ∷ []) } ∷ []) new (sym (to_at done says dealt e) ∙ h) in
     inr (record { done = done; last = record { says = says; delivery = each (dealt ++ e ∷ []) }; is = sym told.1; few = few; are_turns = are; is_part = more_dealt says dealt e part (not-false _ told.0) is })
 
 -- one more item keeps what turns so far are

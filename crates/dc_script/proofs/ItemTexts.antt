@@ -23,10 +23,10 @@ use Rattle.dc_field.proofs.FirstAbove.{IsWord-from_position}
 use Rattle.dc_field.proofs.WordText.{word_text-word_of_text, word_of_text-word_text}
 use Rattle.dc_script.specs.declared.item.Item.{Item}
 use Rattle.dc_script.specs.declared.item.Item.TheVariants.{RoundLine, SayLine, AllLine, ToLine}
-use Rattle.dc_script.specs.Items.{entry_of, entry_in, item_in, item_text, IsEntry, IsItem}
+use Rattle.dc_script.specs.Items.{station_with_word, entry_in, item_in, item_text, IsEntry, IsItem}
 
 -- an entry, cut where its blank stands
-entry_of_parts : (number w : List ℕ) → length w ≡ 80 → entry_in ((number ++ codes " ") ++ w) ≡ entry_of (number_in number) (word_of_text w)
+entry_of_parts : (number w : List ℕ) → length w ≡ 80 → entry_in ((number ++ codes " ") ++ w) ≡ station_with_word (number_in number) (word_of_text w)
 entry_of_parts number w eighty =
     let apart : (number ++ 32 ∷ []) ++ w ≡ number ++ 32 ∷ w = append_assoc number (32 ∷ []) w in
     let blank : length ((number ++ 32 ∷ []) ++ w) - 81 ≡ length number = omega (arith, length-append (number ++ 32 ∷ []) w, length-append number (32 ∷ [])) in
@@ -87,7 +87,8 @@ word_is_word text w e =
     IsWord-from_position w (ap length (sym judged.1) ∙ length-word_of (λ l. symbol_at (map count_of text) (5 * l))) (sym (ap (position (λ x. nat_lt 65536 x)) (sym judged.1) ∙ judged.0))
 
 -- the parts of an entry
-parts_found : (number word : List ℕ) (n : Option ℕ) (r : Result (List ℕ) WordFault) (e : ℕ × List ℕ) → number_in number ≡ n → word_of_text word ≡ r → entry_of n r ≡ Some e → (number ≡ decimal e.0) × (word ≡ word_text e.1) × IsEntry e
+parts_found : (number word : List ℕ) (n : Option ℕ) (r : Result (List ℕ) WordFault) (e : ℕ × List ℕ) → number_in number ≡ n → word_of_text word ≡ r
+    → station_with_word n r ≡ Some e → (number ≡ decimal e.0) × (word ≡ word_text e.1) × IsEntry e
 parts_found number word None r e m s h = absurd cc
 parts_found number word (Some i) (Err fault) e m s h = absurd cc
 parts_found number word (Some i) (Ok w) e m s h =
@@ -100,8 +101,8 @@ parts_found number word (Some i) (Ok w) e m s h =
 -- an entry that is read is written so
 entry_found : (text : List ℕ) (e : ℕ × List ℕ) → entry_in text ≡ Some e → (text ≡ (decimal e.0 ++ codes " ") ++ word_text e.1) × IsEntry e
 entry_found text e h =
-    let long = not_chosen (nat_lt (length text) 81) (cond (get_or text (length text - 81) 0 == 32) (entry_of (number_in (take (length text - 81) text)) (word_of_text (drop (length text - 81 + 1) text))) None) e h in
-    let blank = chosen (get_or text (length text - 81) 0 == 32) (entry_of (number_in (take (length text - 81) text)) (word_of_text (drop (length text - 81 + 1) text))) e long.1 in
+    let long = not_chosen (nat_lt (length text) 81) (cond (get_or text (length text - 81) 0 == 32) (station_with_word (number_in (take (length text - 81) text)) (word_of_text (drop (length text - 81 + 1) text))) None) e h in
+    let blank = chosen (get_or text (length text - 81) 0 == 32) (station_with_word (number_in (take (length text - 81) text)) (word_of_text (drop (length text - 81 + 1) text))) e long.1 in
     let parts = parts_found (take (length text - 81) text) (drop (length text - 81 + 1) text) (number_in (take (length text - 81) text)) (word_of_text (drop (length text - 81 + 1) text)) e refl refl blank.1 in
     let room : 81 ≤ length text = ltb-false _ _ long.0 in
     let rest : drop (length text - 81) text ≡ 32 ∷ word_text e.1 = drop_more text (length text - 81) 0 (omega arith) ∙ ap (λ (c : ℕ). c ∷ drop (length text - 81 + 1) text) (eqb-true _ _ blank.0) ∙ ap (λ (w : List ℕ). 32 ∷ w) parts.1 in
@@ -145,13 +146,15 @@ all_found text item e =
     subst (IsSpelled text) same ((bytes_eq-Decides text (codes "all")).0 made.0, tt)
 
 -- none of the forms before
-not_to : (text : List ℕ) (item : Item) → cond (starts_with nat_eq text (codes "round ")) (option_map RoundLine (number_in (drop 6 text))) (cond (bytes_eq text (codes "all")) (Some AllLine) None) ≡ Some item → IsSpelled text item
+not_to : (text : List ℕ) (item : Item)
+    → cond (starts_with nat_eq text (codes "round ")) (option_map RoundLine (number_in (drop 6 text))) (cond (bytes_eq text (codes "all")) (Some AllLine) None) ≡ Some item → IsSpelled text item
 not_to text item e = elim (cases_Bool (starts_with nat_eq text (codes "round "))) [
   | inl has ↦ round_found text item has (rw has at e)
   | inr lacks ↦ all_found text item (rw lacks at e)
 ]
 
-not_say : (text : List ℕ) (item : Item) → cond (starts_with nat_eq text (codes "to ")) (option_map ToLine (entry_in (drop 3 text))) (cond (starts_with nat_eq text (codes "round ")) (option_map RoundLine (number_in (drop 6 text))) (cond (bytes_eq text (codes "all")) (Some AllLine) None)) ≡ Some item → IsSpelled text item
+not_say : (text : List ℕ) (item : Item)
+    → cond (starts_with nat_eq text (codes "to ")) (option_map ToLine (entry_in (drop 3 text))) (cond (starts_with nat_eq text (codes "round ")) (option_map RoundLine (number_in (drop 6 text))) (cond (bytes_eq text (codes "all")) (Some AllLine) None)) ≡ Some item → IsSpelled text item
 not_say text item e = elim (cases_Bool (starts_with nat_eq text (codes "to "))) [
   | inl has ↦ to_found text item has (rw has at e)
   | inr lacks ↦ not_to text item (rw lacks at e)

@@ -6,7 +6,7 @@ use Rattle.std.proofs.lemmas.Bool.{le-leb, ne_eqb}
 use Rattle.std.proofs.lemmas.List.{length-append}
 use Rattle.dc_spec.specs.Scripts.{all_sum, each, Turn}
 use Rattle.dc_script.specs.declared.fault.ScriptKind.TheVariants.{Misplaced, Order}
-use Rattle.dc_script.specs.Turns.{begun_turn, last_turn, with_last, is_undelivered, is_waiting, is_next, with_say, with_all, with_to}
+use Rattle.dc_script.specs.Turns.{begun_turn, last_turn, with_last, is_undelivered, is_waiting, is_above_last, with_say, with_all, with_to}
 
 -- where the last one stands
 last_place : (done : List Turn) (t : Turn) → length (done ++ t ∷ []) - 1 ≡ length done
@@ -30,7 +30,8 @@ pub waits : (done : List Turn) (t : Turn) → is_waiting (done ++ t ∷ []) ≡ 
 waits done t = rw (some_there done t, last_is done t) refl
 
 -- one more word said
-pub say_at : (done : List Turn) (t : Turn) (e : ℕ × List ℕ) → with_say (done ++ t ∷ []) e ≡ cond (is_undelivered t.delivery) (cond (not (is_next e.0 t.says)) (Err (Order e.0)) (Ok (done ++ record { says = t.says ++ e ∷ []; delivery = t.delivery } ∷ []))) (Err Misplaced)
+pub say_at : (done : List Turn) (t : Turn) (e : ℕ × List ℕ)
+    → with_say (done ++ t ∷ []) e ≡ cond (is_undelivered t.delivery) (cond (not (is_above_last e.0 t.says)) (Err (Order e.0)) (Ok (done ++ record { says = t.says ++ e ∷ []; delivery = t.delivery } ∷ []))) (Err Misplaced)
 say_at done t e = rw (waits done t, last_is done t, with_last_is done t (record { says = t.says ++ e ∷ []; delivery = t.delivery })) refl
 
 -- all receive the sum
@@ -38,7 +39,8 @@ pub all_at : (done : List Turn) (t : Turn) → with_all (done ++ t ∷ []) ≡ c
 all_at done t = rw (waits done t, last_is done t, with_last_is done t (record { says = t.says; delivery = all_sum })) refl
 
 -- one more word dealt
-pub to_at : (done : List Turn) (says dealt : List (ℕ × List ℕ)) (e : ℕ × List ℕ) → with_to (done ++ record { says = says; delivery = each dealt } ∷ []) e ≡ cond (not (is_next e.0 dealt)) (Err (Order e.0)) (Ok (done ++ record { says = says; delivery = each (dealt ++ e ∷ []) } ∷ []))
+pub to_at : (done : List Turn) (says dealt : List (ℕ × List ℕ)) (e : ℕ × List ℕ)
+    → with_to (done ++ record { says = says; delivery = each dealt } ∷ []) e ≡ cond (not (is_above_last e.0 dealt)) (Err (Order e.0)) (Ok (done ++ record { says = says; delivery = each (dealt ++ e ∷ []) } ∷ []))
 to_at done says dealt e =
     let t : Turn = record { says = says; delivery = each dealt } in
     rw (not_none done t, last_is done t, with_last_is done t (record { says = says; delivery = each (dealt ++ e ∷ []) })) refl

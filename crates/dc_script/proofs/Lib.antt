@@ -5,7 +5,7 @@ mod ItemTexts
 mod LastTurn
 mod Entries
 mod Growing
-mod LinesLeft
+mod ReadSoFar
 mod Rereading
 mod LinesAndTurns
 mod SameReading

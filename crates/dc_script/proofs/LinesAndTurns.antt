@@ -14,8 +14,8 @@ use Rattle.dc_script.specs.declared.fault.ScriptKind.{ScriptKind}
 use Rattle.dc_script.specs.declared.fault.ScriptKind.TheVariants.{Round, TooMany, Misplaced, Order, Missing}
 use Rattle.dc_script.specs.declared.item.Item.{Item}
 use Rattle.dc_script.specs.declared.item.Item.TheVariants.{RoundLine, SayLine, AllLine, ToLine}
-use Rattle.dc_script.specs.Turns.{begun_turn, is_undelivered, is_waiting, is_next, told_count, with_say, with_all, with_to, with_item}
-use Rattle.dc_script.specs.Lines.{is_round, until_round, rounds_in, round_count, since_round, said_in, said, dealt_in, dealt, is_all, has_all, has_delivery, lacks_delivery, order_fault, item_fault, turn_of, turns_of}
+use Rattle.dc_script.specs.Turns.{begun_turn, is_undelivered, is_waiting, is_above_last, reported_count, with_say, with_all, with_to, with_item}
+use Rattle.dc_script.specs.Lines.{is_round, until_round, rounds_in, round_count, since_round, said_in, said, dealt_in, dealt, is_all, has_all, has_delivery, lacks_delivery, order_fault, item_fault, turn_of_items, turns_of_items}
 use Rattle.dc_script.proofs.LastTurn.{waits, say_at, all_at, to_at, to_sum}
 
 or_assoc : (a b c : Bool) → (a || (b || c)) ≡ ((a || b) || c)
@@ -98,8 +98,8 @@ last_round (p ∷ rs) = inr (elim (last_round rs) [
 ])
 
 -- turns with a last one
-turns_last : (items : List Item) (ps : List (List Item)) (p : List Item) → rounds_in items ≡ ps ++ p ∷ [] → turns_of items ≡ map turn_of ps ++ turn_of p ∷ []
-turns_last items ps p is = ap (map turn_of) is ∙ map-append turn_of ps (p ∷ [])
+turns_last : (items : List Item) (ps : List (List Item)) (p : List Item) → rounds_in items ≡ ps ++ p ∷ [] → turns_of_items items ≡ map turn_of_items ps ++ turn_of_items p ∷ []
+turns_last items ps p is = ap (map turn_of_items) is ∙ map-append turn_of_items ps (p ∷ [])
 
 since_last : (items : List Item) (ps : List (List Item)) (p : List Item) → rounds_in items ≡ ps ++ p ∷ [] → since_round items ≡ p
 since_last items ps p is =
@@ -111,7 +111,7 @@ none_or_one : (n : ℕ) → (n == 0) ≡ not (nat_le 1 n)
 none_or_one zero = refl
 none_or_one (suc n) = grind (arith, nat_tests)
 
-undelivered_part : (p : List Item) → is_undelivered (turn_of p).delivery ≡ not (has_delivery p)
+undelivered_part : (p : List Item) → is_undelivered (turn_of_items p).delivery ≡ not (has_delivery p)
 undelivered_part p = elim (cases_Bool (has_all p)) [
   | inl all ↦ rw all refl
   | inr words ↦ rw words (none_or_one (length (dealt p)))
@@ -124,10 +124,10 @@ lacks_at : (items : List Item) (ps : List (List Item)) (p : List Item) → round
 lacks_at items ps p is = ap (λ (part : List Item). nat_le 1 (round_count items) && not (has_delivery part)) (since_last items ps p is) ∙ rw (is, some_count ps p) refl
 
 -- turns wait where items lack a delivery
-pub same_waiting : (items : List Item) → is_waiting (turns_of items) ≡ lacks_delivery items
+pub same_waiting : (items : List Item) → is_waiting (turns_of_items items) ≡ lacks_delivery items
 same_waiting items = elim (last_round (rounds_in items)) [
   | inl none ↦ rw none refl
-  | inr some ↦ ap is_waiting (turns_last items some.before some.part some.is) ∙ waits (map turn_of some.before) (turn_of some.part) ∙ undelivered_part some.part ∙ sym (lacks_at items some.before some.part some.is)
+  | inr some ↦ ap is_waiting (turns_last items some.before some.part some.is) ∙ waits (map turn_of_items some.before) (turn_of_items some.part) ∙ undelivered_part some.part ∙ sym (lacks_at items some.before some.part some.is)
 ]
 
 -- what is made of a fault, or of none
@@ -137,7 +137,7 @@ made turns (Some kind) = Err kind
 
 -- what a list of items with one more makes
 abbrev pub Made : List Item → Item → Type 0
-Made items x = with_item (turns_of items) x ≡ made (turns_of (items ++ x ∷ [])) (item_fault items x)
+Made items x = with_item (turns_of_items items) x ≡ made (turns_of_items (items ++ x ∷ [])) (item_fault items x)
 
 made_of_two : (a b : Bool) (f g : ScriptKind) (ts : List Turn) → cond a (cond (not b) (Err f) (Ok ts)) (Err g) ≡ made ts (cond (not a) (Some g) (cond b None (Some f)))
 unfolding made
@@ -171,20 +171,20 @@ any_more f (y ∷ p) x = ap (λ (b : Bool). f y || b) (any_more f p x) ∙ or_as
 abbrev delivery_of : Bool → List (ℕ × List ℕ) → Delivery
 delivery_of b ds = cond b all_sum (each ds)
 
-more_said : (p : List Item) (e : ℕ × List ℕ) → turn_of (p ++ SayLine e ∷ []) ≡ record { says = said p ++ e ∷ []; delivery = (turn_of p).delivery }
+more_said : (p : List Item) (e : ℕ × List ℕ) → turn_of_items (p ++ SayLine e ∷ []) ≡ record { says = said p ++ e ∷ []; delivery = (turn_of_items p).delivery }
 more_said p e =
     let says : said (p ++ SayLine e ∷ []) ≡ said p ++ e ∷ [] = filter_map-append said_in p (SayLine e ∷ []) in
     let all : has_all (p ++ SayLine e ∷ []) ≡ has_all p = any_more is_all p (SayLine e) ∙ or-false (has_all p) in
     let words : dealt (p ++ SayLine e ∷ []) ≡ dealt p = filter_map-append dealt_in p (SayLine e ∷ []) ∙ append-nil (dealt p) in
     rw (says, all, words) refl
 
-more_all : (p : List Item) → turn_of (p ++ AllLine ∷ []) ≡ record { says = said p; delivery = all_sum }
+more_all : (p : List Item) → turn_of_items (p ++ AllLine ∷ []) ≡ record { says = said p; delivery = all_sum }
 more_all p =
     let says : said (p ++ AllLine ∷ []) ≡ said p = filter_map-append said_in p (AllLine ∷ []) ∙ append-nil (said p) in
     let all : has_all (p ++ AllLine ∷ []) ≡ true = any_more is_all p AllLine ∙ or-true (has_all p) in
     rw (says, all) refl
 
-more_dealt : (p : List Item) (e : ℕ × List ℕ) → has_all p ≡ false → turn_of (p ++ ToLine e ∷ []) ≡ record { says = said p; delivery = each (dealt p ++ e ∷ []) }
+more_dealt : (p : List Item) (e : ℕ × List ℕ) → has_all p ≡ false → turn_of_items (p ++ ToLine e ∷ []) ≡ record { says = said p; delivery = each (dealt p ++ e ∷ []) }
 more_dealt p e none =
     let says : said (p ++ ToLine e ∷ []) ≡ said p = filter_map-append said_in p (ToLine e ∷ []) ∙ append-nil (said p) in
     let all : has_all (p ++ ToLine e ∷ []) ≡ false = any_more is_all p (ToLine e) ∙ or-false (has_all p) ∙ none in
@@ -192,15 +192,16 @@ more_dealt p e none =
     rw (says, all, words) refl
 
 -- the turns of items with one more that begins no round
-turns_more : (items : List Item) (x : Item) (ps : List (List Item)) (p : List Item) → is_round x ≡ false → rounds_in items ≡ ps ++ p ∷ [] → turns_of (items ++ x ∷ []) ≡ map turn_of ps ++ turn_of (p ++ x ∷ []) ∷ []
+turns_more : (items : List Item) (x : Item) (ps : List (List Item)) (p : List Item) → is_round x ≡ false → rounds_in items ≡ ps ++ p ∷ []
+    → turns_of_items (items ++ x ∷ []) ≡ map turn_of_items ps ++ turn_of_items (p ++ x ∷ []) ∷ []
 turns_more items x ps p other is = turns_last (items ++ x ∷ []) ps (p ++ x ∷ []) (rounds_other x items other ∙ ap (put_last x) is ∙ put_last_is x ps p)
 
 -- a round's line
 made_round : (items : List Item) (r : ℕ) → Made items (RoundLine r)
 made_round items r =
-    let count : length (turns_of items) ≡ round_count items = length-map (rounds_in items) turn_of in
-    let turns : turns_of (items ++ RoundLine r ∷ []) ≡ turns_of items ++ begun_turn ∷ [] = ap (map turn_of) (rounds_round r items) ∙ map-append turn_of (rounds_in items) ([] ∷ []) in
-    rw (same_waiting items, count, turns) (made_of_three (lacks_delivery items) (not (r == round_count items)) (nat_le 4096 (round_count items)) Missing (Round r (told_count (round_count items))) TooMany (turns_of items ++ begun_turn ∷ []))
+    let count : length (turns_of_items items) ≡ round_count items = length-map (rounds_in items) turn_of_items in
+    let turns : turns_of_items (items ++ RoundLine r ∷ []) ≡ turns_of_items items ++ begun_turn ∷ [] = ap (map turn_of_items) (rounds_round r items) ∙ map-append turn_of_items (rounds_in items) ([] ∷ []) in
+    rw (same_waiting items, count, turns) (made_of_three (lacks_delivery items) (not (r == round_count items)) (nat_le 4096 (round_count items)) Missing (Round r (reported_count (round_count items))) TooMany (turns_of_items items ++ begun_turn ∷ []))
 
 -- a word said
 made_say : (items : List Item) (e : ℕ × List ℕ) → Made items (SayLine e)
@@ -208,15 +209,15 @@ unfolding made
 made_say items e = elim (last_round (rounds_in items)) [
   | inl none ↦ rw none refl
   | inr some ↦ (
-      let waiting : is_undelivered (turn_of some.part).delivery ≡ lacks_delivery items = undelivered_part some.part ∙ sym (lacks_at items some.before some.part some.is) in
-      let before : with_say (turns_of items) e ≡ cond (is_undelivered (turn_of some.part).delivery) (cond (not (is_next e.0 (said some.part))) (Err (Order e.0)) (Ok (map turn_of some.before ++ record { says = said some.part ++ e ∷ []; delivery = (turn_of some.part).delivery } ∷ []))) (Err Misplaced)
-      = ap (λ (ts : List Turn). with_say ts e) (turns_last items some.before some.part some.is) ∙ say_at (map turn_of some.before) (turn_of some.part) e in
-      let after : turns_of (items ++ SayLine e ∷ []) ≡ map turn_of some.before ++ record { says = said some.part ++ e ∷ []; delivery = (turn_of some.part).delivery } ∷ []
-      = turns_more items (SayLine e) some.before some.part refl some.is ∙ ap (λ (t : Turn). map turn_of some.before ++ t ∷ []) (more_said some.part e) in
-      before ∙ ap (λ (b : Bool). cond b (cond (not (is_next e.0 (said some.part))) (Err (Order e.0)) (Ok (map turn_of some.before ++ record { says = said some.part ++ e ∷ []; delivery = (turn_of some.part).delivery } ∷ []))) (Err Misplaced)) waiting
-      ∙ made_of_two (lacks_delivery items) (is_next e.0 (said some.part)) (Order e.0) Misplaced _
+      let waiting : is_undelivered (turn_of_items some.part).delivery ≡ lacks_delivery items = undelivered_part some.part ∙ sym (lacks_at items some.before some.part some.is) in
+      let before : with_say (turns_of_items items) e ≡ cond (is_undelivered (turn_of_items some.part).delivery) (cond (not (is_above_last e.0 (said some.part))) (Err (Order e.0)) (Ok (map turn_of_items some.before ++ record { says = said some.part ++ e ∷ []; delivery = (turn_of_items some.part).delivery } ∷ []))) (Err Misplaced)
+      = ap (λ (ts : List Turn). with_say ts e) (turns_last items some.before some.part some.is) ∙ say_at (map turn_of_items some.before) (turn_of_items some.part) e in
+      let after : turns_of_items (items ++ SayLine e ∷ []) ≡ map turn_of_items some.before ++ record { says = said some.part ++ e ∷ []; delivery = (turn_of_items some.part).delivery } ∷ []
+      = turns_more items (SayLine e) some.before some.part refl some.is ∙ ap (λ (t : Turn). map turn_of_items some.before ++ t ∷ []) (more_said some.part e) in
+      before ∙ ap (λ (b : Bool). cond b (cond (not (is_above_last e.0 (said some.part))) (Err (Order e.0)) (Ok (map turn_of_items some.before ++ record { says = said some.part ++ e ∷ []; delivery = (turn_of_items some.part).delivery } ∷ []))) (Err Misplaced)) waiting
+      ∙ made_of_two (lacks_delivery items) (is_above_last e.0 (said some.part)) (Order e.0) Misplaced _
       ∙ ap (λ (ts : List Turn). made ts (cond (not (lacks_delivery items)) (Some Misplaced) (order_fault e.0 (said some.part)))) (sym after)
-      ∙ ap (λ (part : List Item). made (turns_of (items ++ SayLine e ∷ [])) (cond (not (lacks_delivery items)) (Some Misplaced) (order_fault e.0 (said part)))) (sym (since_last items some.before some.part some.is)))
+      ∙ ap (λ (part : List Item). made (turns_of_items (items ++ SayLine e ∷ [])) (cond (not (lacks_delivery items)) (Some Misplaced) (order_fault e.0 (said part)))) (sym (since_last items some.before some.part some.is)))
 ]
 
 -- all receive the sum
@@ -225,12 +226,12 @@ unfolding made
 made_all items = elim (last_round (rounds_in items)) [
   | inl none ↦ rw none refl
   | inr some ↦ (
-      let waiting : is_undelivered (turn_of some.part).delivery ≡ lacks_delivery items = undelivered_part some.part ∙ sym (lacks_at items some.before some.part some.is) in
-      let before : with_all (turns_of items) ≡ cond (is_undelivered (turn_of some.part).delivery) (Ok (map turn_of some.before ++ record { says = said some.part; delivery = all_sum } ∷ [])) (Err Misplaced)
-      = ap with_all (turns_last items some.before some.part some.is) ∙ all_at (map turn_of some.before) (turn_of some.part) in
-      let after : turns_of (items ++ AllLine ∷ []) ≡ map turn_of some.before ++ record { says = said some.part; delivery = all_sum } ∷ []
-      = turns_more items AllLine some.before some.part refl some.is ∙ ap (λ (t : Turn). map turn_of some.before ++ t ∷ []) (more_all some.part) in
-      before ∙ ap (λ (b : Bool). cond b (Ok (map turn_of some.before ++ record { says = said some.part; delivery = all_sum } ∷ [])) (Err Misplaced)) waiting
+      let waiting : is_undelivered (turn_of_items some.part).delivery ≡ lacks_delivery items = undelivered_part some.part ∙ sym (lacks_at items some.before some.part some.is) in
+      let before : with_all (turns_of_items items) ≡ cond (is_undelivered (turn_of_items some.part).delivery) (Ok (map turn_of_items some.before ++ record { says = said some.part; delivery = all_sum } ∷ [])) (Err Misplaced)
+      = ap with_all (turns_last items some.before some.part some.is) ∙ all_at (map turn_of_items some.before) (turn_of_items some.part) in
+      let after : turns_of_items (items ++ AllLine ∷ []) ≡ map turn_of_items some.before ++ record { says = said some.part; delivery = all_sum } ∷ []
+      = turns_more items AllLine some.before some.part refl some.is ∙ ap (λ (t : Turn). map turn_of_items some.before ++ t ∷ []) (more_all some.part) in
+      before ∙ ap (λ (b : Bool). cond b (Ok (map turn_of_items some.before ++ record { says = said some.part; delivery = all_sum } ∷ [])) (Err Misplaced)) waiting
       ∙ made_of_one (lacks_delivery items) Misplaced _
       ∙ ap (λ (ts : List Turn). made ts (cond (not (lacks_delivery items)) (Some Misplaced) None)) (sym after))
 ]
@@ -250,16 +251,16 @@ made_to items e = elim (last_round (rounds_in items)) [
       let count : (round_count items == 0) ≡ false = ap (λ (rs : List (List Item)). length rs == 0) some.is ∙ not_zero some.before some.part in
       elim (cases_Bool (has_all some.part)) [
         | inl all ↦ (
-            let part : turn_of some.part ≡ record { says = said some.part; delivery = all_sum } = rw all refl in
-            let before : with_to (turns_of items) e ≡ Err Misplaced = ap (λ (ts : List Turn). with_to ts e) (turns ∙ ap (λ (t : Turn). map turn_of some.before ++ t ∷ []) part) ∙ to_sum (map turn_of some.before) (said some.part) e in
+            let part : turn_of_items some.part ≡ record { says = said some.part; delivery = all_sum } = rw all refl in
+            let before : with_to (turns_of_items items) e ≡ Err Misplaced = ap (λ (ts : List Turn). with_to ts e) (turns ∙ ap (λ (t : Turn). map turn_of_items some.before ++ t ∷ []) part) ∙ to_sum (map turn_of_items some.before) (said some.part) e in
             before ∙ rw (count, since, all) refl)
         | inr words ↦ (
-            let part : turn_of some.part ≡ record { says = said some.part; delivery = each (dealt some.part) } = rw words refl in
-            let before : with_to (turns_of items) e ≡ cond (not (is_next e.0 (dealt some.part))) (Err (Order e.0)) (Ok (map turn_of some.before ++ record { says = said some.part; delivery = each (dealt some.part ++ e ∷ []) } ∷ []))
-            = ap (λ (ts : List Turn). with_to ts e) (turns ∙ ap (λ (t : Turn). map turn_of some.before ++ t ∷ []) part) ∙ to_at (map turn_of some.before) (said some.part) (dealt some.part) e in
-            let after : turns_of (items ++ ToLine e ∷ []) ≡ map turn_of some.before ++ record { says = said some.part; delivery = each (dealt some.part ++ e ∷ []) } ∷ []
-            = turns_more items (ToLine e) some.before some.part refl some.is ∙ ap (λ (t : Turn). map turn_of some.before ++ t ∷ []) (more_dealt some.part e words) in
-            before ∙ made_of_next (is_next e.0 (dealt some.part)) (Order e.0) _ ∙ rw (after, count, since, words) refl)
+            let part : turn_of_items some.part ≡ record { says = said some.part; delivery = each (dealt some.part) } = rw words refl in
+            let before : with_to (turns_of_items items) e ≡ cond (not (is_above_last e.0 (dealt some.part))) (Err (Order e.0)) (Ok (map turn_of_items some.before ++ record { says = said some.part; delivery = each (dealt some.part ++ e ∷ []) } ∷ []))
+            = ap (λ (ts : List Turn). with_to ts e) (turns ∙ ap (λ (t : Turn). map turn_of_items some.before ++ t ∷ []) part) ∙ to_at (map turn_of_items some.before) (said some.part) (dealt some.part) e in
+            let after : turns_of_items (items ++ ToLine e ∷ []) ≡ map turn_of_items some.before ++ record { says = said some.part; delivery = each (dealt some.part ++ e ∷ []) } ∷ []
+            = turns_more items (ToLine e) some.before some.part refl some.is ∙ ap (λ (t : Turn). map turn_of_items some.before ++ t ∷ []) (more_dealt some.part e words) in
+            before ∙ made_of_next (is_above_last e.0 (dealt some.part)) (Order e.0) _ ∙ rw (after, count, since, words) refl)
       ])
 ]
 

@@ -25,7 +25,8 @@ one_more rounds i d lt =
     ap (lines_from 0) (take_more rounds i d lt) ∙ split ∙ rw place (ap (λ ls. lines_from 0 (take i rounds) ++ ls) (append-nil (turn_lines i (get_or rounds i d))))
 
 -- one more round is put
-pub next_put : (start before now : List ℕ) (rounds : List Turn) (i : ℕ) (round : Turn) → i < length rounds → before ≡ start ++ lines_from 0 (take i rounds) → round ≡ get_or rounds i round → now ≡ before ++ turn_lines i round → now ≡ start ++ lines_from 0 (take (i + 1) rounds)
+pub next_put : (start before now : List ℕ) (rounds : List Turn) (i : ℕ) (round : Turn) → i < length rounds → before ≡ start ++ lines_from 0 (take i rounds)
+    → round ≡ get_or rounds i round → now ≡ before ++ turn_lines i round → now ≡ start ++ lines_from 0 (take (i + 1) rounds)
 next_put start before now rounds i round lt so_far is put =
     put
     ∙ ap (λ (ls : List ℕ). ls ++ turn_lines i round) so_far

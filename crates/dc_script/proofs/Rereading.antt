@@ -19,16 +19,16 @@ use Rattle.dc_formats.proofs.Pieces.{decimal_figures, word_text_figures}
 use Rattle.dc_formats.proofs.SpelledLines.{figures_printable, printable_by_test, joined}
 use Rattle.dc_field.specs.Answers.{Answers}
 use Rattle.dc_field.specs.declared.refusal.Refusal.{Refusal}
-use Rattle.dc_text.specs.Lines.{text_in, told_line, with_lines, IsFirstLine}
-use Rattle.dc_text.proofs.LineByLine.{text_in-ended, with_texts, went_on, ended_text, texts_of_lines, lines_of_texts, with_texts-append, texts_spelled, texts_keep}
+use Rattle.dc_text.specs.Lines.{text_in, reported_line, with_lines, LinesLeft, IsNextLine}
+use Rattle.dc_text.proofs.LineByLine.{with_texts, went_on, ended_text, texts_of_lines, lines_of_texts, with_texts-append, texts_spelled, texts_keep}
 use Rattle.dc_script.specs.declared.fault.ScriptFault.{ScriptFault}
 use Rattle.dc_script.specs.declared.fault.ScriptKind.TheVariants.{NotText, Header, Missing}
 use Rattle.dc_script.specs.declared.item.Item.{Item}
 use Rattle.dc_script.specs.declared.item.Item.TheVariants.{RoundLine, SayLine, AllLine, ToLine}
 use Rattle.dc_script.specs.Items.{item_in, item_text, entry_text, IsEntry, IsItem}
-use Rattle.dc_script.specs.Turns.{begun_turn, is_undelivered, is_waiting, is_next, with_round, with_say, with_to, with_item}
-use Rattle.dc_script.specs.Reading.{at_line, headed, script_in}
-use Rattle.dc_script.specs.TurnReading.{with_said_item, with_text, turns_in, closed, after_head, script_by_turns}
+use Rattle.dc_script.specs.Turns.{begun_turn, is_undelivered, is_waiting, is_above_last, with_round, with_say, with_to, with_item}
+use Rattle.dc_script.specs.Reading.{script_fault, headed, script_in}
+use Rattle.dc_script.specs.TurnReading.{turns_with_item_in, turns_with_line, turns_in, closed, after_head, script_by_turns}
 use Rattle.dc_script.proofs.Putting.{lines_from}
 use Rattle.dc_script.proofs.ItemTexts.{item_in-item_text, item_found, IsSpelled}
 use Rattle.dc_script.proofs.LastTurn.{waits, say_at, all_at, to_at}
@@ -38,16 +38,17 @@ use Rattle.dc_script.proofs.Growing.{SoFar, script_done, item_lines, item_so_far
 -- ---- what is read is spelled so
 
 -- a line that is read tells an item
-of_item : (turns : List Turn) (text : List ℕ) (o : Option Item) (new : List Turn) → item_in text ≡ o → with_said_item turns o ≡ Ok new → (item : Item) × IsSpelled text item × (with_item turns item ≡ Ok new)
+of_item : (turns : List Turn) (text : List ℕ) (o : Option Item) (new : List Turn) → item_in text ≡ o → turns_with_item_in turns o ≡ Ok new
+    → (item : Item) × IsSpelled text item × (with_item turns item ≡ Ok new)
 of_item turns text None new is e = absurd cc
 of_item turns text (Some item) new is e = (item, item_found text item is, e)
 
-text_lines : (turns new : List Turn) (text : List ℕ) → with_text turns text ≡ Ok new → lines_from 0 new ≡ lines_from 0 turns ++ line text
+text_lines : (turns new : List Turn) (text : List ℕ) → turns_with_line turns text ≡ Ok new → lines_from 0 new ≡ lines_from 0 turns ++ line text
 text_lines turns new text e =
     let item = of_item turns text (item_in text) new refl e in
     item_lines turns item.0 new item.2 ∙ ap (λ (t : List ℕ). lines_from 0 turns ++ line t) (sym item.1.0)
 
-text_so_far : (turns new : List Turn) (text : List ℕ) → SoFar turns → with_text turns text ≡ Ok new → SoFar new
+text_so_far : (turns new : List Turn) (text : List ℕ) → SoFar turns → turns_with_line turns text ≡ Ok new → SoFar new
 text_so_far turns new text so e =
     let item = of_item turns text (item_in text) new refl e in
     item_so_far turns item.0 new so item.1.1 item.2
@@ -55,7 +56,7 @@ text_so_far turns new text so e =
 -- what the lines after the first make
 pub record IsBody (lines : List Line) (turns : List Turn) : Type 0 where
   pub texts : List (List ℕ)
-  pub told : lines ≡ map ended texts
+  pub are_ended : lines ≡ map ended texts
   pub is_script : IsScript turns
   pub spelled : lines_from 0 turns ≡ text_file texts
 
@@ -67,28 +68,29 @@ not_refused false f x y e = (refl, cc)
 pub body_found : (lines : List Line) (turns : List Turn) → after_head lines ≡ Ok turns → IsBody lines turns
 body_found lines turns e =
     let read = went_on (λ (f : ScriptFault). f) closed (turns_in lines) turns e in
-    let end = not_refused (is_waiting read.0.0) (at_line read.0.1 Missing) read.0.0 turns read.2 in
-    let made = went_on (λ (f : ScriptFault). f) (λ (ts : List Turn). Ok (ts, told_line (2 + length lines))) (with_lines at_line NotText with_text 2 [] lines) read.0 read.1 in
-    let pair : (made.0, told_line (2 + length lines)) ≡ read.0 = let h : Ok (made.0, told_line (2 + length lines)) ≡ Ok read.0 = made.2 in cc in
+    let end = not_refused (is_waiting read.0.0) (script_fault read.0.1 Missing) read.0.0 turns read.2 in
+    let made = went_on (λ (f : ScriptFault). f) (λ (ts : List Turn). Ok (ts, reported_line (2 + length lines))) (with_lines script_fault NotText turns_with_line 2 [] lines) read.0 read.1 in
+    let pair : (made.0, reported_line (2 + length lines)) ≡ read.0 = let h : Ok (made.0, reported_line (2 + length lines)) ≡ Ok read.0 = made.2 in cc in
     let same : made.0 ≡ turns = ap (λ (p : List Turn × ℕ). p.0) pair ∙ end.1 in
-    let rest = texts_of_lines at_line NotText with_text 2 [] turns lines (made.1 ∙ ap Ok same) in
-    let so : SoFar turns = texts_keep with_text SoFar (λ c n t. text_so_far c n t) [] turns rest.texts (inl refl) rest.made in
+    let rest = texts_of_lines script_fault NotText turns_with_line 2 [] turns lines (made.1 ∙ ap Ok same) in
+    let so : SoFar turns = texts_keep turns_with_line SoFar (λ c n t. text_so_far c n t) [] turns rest.texts (inl refl) rest.made in
     record {
       texts = rest.texts;
-      told = rest.told;
+      are_ended = rest.are_ended;
       is_script = script_done turns so (ap is_waiting (sym end.1) ∙ end.0);
-      spelled = texts_spelled with_text (lines_from 0) text_lines [] turns rest.texts rest.made;
+      spelled = texts_spelled turns_with_line (lines_from 0) text_lines [] turns rest.texts rest.made;
     }
 
 -- the head line stands first
 head_found : (lines : List Line) (text : List ℕ) (turns : List Turn) → headed after_head (Some text) lines ≡ Ok turns → (text ≡ codes "dcscript 1") × IsBody lines turns
 head_found lines text turns e = head_chosen (bytes_eq text (codes "dcscript 1")) refl e
   where
-    head_chosen : (b : Bool) → bytes_eq text (codes "dcscript 1") ≡ b → cond b (after_head lines) (Err (at_line 1 Header)) ≡ Ok turns → (text ≡ codes "dcscript 1") × IsBody lines turns
+    head_chosen : (b : Bool) → bytes_eq text (codes "dcscript 1") ≡ b → cond b (after_head lines) (Err (script_fault 1 Header)) ≡ Ok turns → (text ≡ codes "dcscript 1") × IsBody lines turns
     head_chosen true is h = ((bytes_eq-Decides text (codes "dcscript 1")).0 is, body_found lines turns h)
     head_chosen false is h = absurd cc
 
-first_found : (first : Line) (lines : List Line) (o : Option (List ℕ)) (turns : List Turn) → text_in first ≡ o → headed after_head o lines ≡ Ok turns → (first ≡ ended (codes "dcscript 1")) × IsBody lines turns
+first_found : (first : Line) (lines : List Line) (o : Option (List ℕ)) (turns : List Turn) → text_in first ≡ o → headed after_head o lines ≡ Ok turns
+    → (first ≡ ended (codes "dcscript 1")) × IsBody lines turns
 first_found first lines None turns is e = absurd cc
 first_found first lines (Some text) turns is e =
     let found = head_found lines text turns e in
@@ -98,7 +100,7 @@ in_lines_found : (bytes : List ℕ) (lines : List Line) (turns : List Turn) → 
 in_lines_found bytes [] turns is e = absurd cc
 in_lines_found bytes (first ∷ lines) turns is e =
     let found = first_found first lines (text_in first) turns refl e in
-    let whole : file_lines bytes ≡ map ended (codes "dcscript 1" ∷ found.1.texts) = is ∙ cc (found.0, found.1.told) in
+    let whole : file_lines bytes ≡ map ended (codes "dcscript 1" ∷ found.1.texts) = is ∙ cc (found.0, found.1.are_ended) in
     (found.1.is_script, text_file_of_lines bytes (codes "dcscript 1" ∷ found.1.texts) whole ∙ ap (λ (ls : List ℕ). line (codes "dcscript 1") ++ ls) (sym found.1.spelled))
 
 -- bytes that are read are the script's spelling
@@ -124,20 +126,20 @@ item_is_text (ToLine e) is = entry_is_text (codes "to ") e (printable_by_test (c
 pub record Reached (turns : List Turn) : Type 0 where
   pub texts : List (List ℕ)
   pub are_lines : All IsTextLine texts
-  pub made : with_texts with_text [] texts ≡ Ok turns
+  pub made : with_texts turns_with_line [] texts ≡ Ok turns
 
 -- one more item
 one_more_item : (turns : List Turn) (item : Item) (new : List Turn) → Reached turns → IsItem item → with_item turns item ≡ Ok new → Reached new
 one_more_item turns item new reached is e =
-    let read : with_text turns (item_text item) ≡ Ok new = ap (with_said_item turns) (item_in-item_text item is) ∙ e in
+    let read : turns_with_line turns (item_text item) ≡ Ok new = ap (turns_with_item_in turns) (item_in-item_text item is) ∙ e in
     record {
       texts = reached.texts ++ item_text item ∷ [];
       are_lines = All-append IsTextLine reached.texts (item_text item ∷ []) reached.are_lines (All-cons IsTextLine (item_text item) [] (item_is_text item is) (All-nil IsTextLine));
-      made = with_texts-append with_text [] turns reached.texts (item_text item ∷ []) reached.made ∙ rw read refl;
+      made = with_texts-append turns_with_line [] turns reached.texts (item_text item ∷ []) reached.made ∙ rw read refl;
     }
 
 -- an entry of a rising list comes next
-next_is : (xs ys : List (ℕ × List ℕ)) (y : ℕ × List ℕ) → IsStrictlyIncreasing (stations (xs ++ y ∷ ys)) → is_next y.0 xs ≡ true
+next_is : (xs ys : List (ℕ × List ℕ)) (y : ℕ × List ℕ) → IsStrictlyIncreasing (stations (xs ++ y ∷ ys)) → is_above_last y.0 xs ≡ true
 next_is [] ys y up = refl
 next_is (x ∷ xs) ys y up =
     let all : stations ((x ∷ xs) ++ y ∷ ys) ≡ stations (x ∷ xs) ++ y.0 ∷ stations ys = map-append (λ (d : ℕ × List ℕ). d.0) (x ∷ xs) (y ∷ ys) in
@@ -160,7 +162,8 @@ entry_is : (xs ys : List (ℕ × List ℕ)) (y : ℕ × List ℕ) → AreStation
 entry_is xs ys y are = (middle (λ d. d.0 < 65536) xs ys y are.stations, middle (λ d. IsWord d.1) xs ys y are.are_words)
 
 -- the words said, one after another
-says_reached : (done : List Turn) (xs ys : List (ℕ × List ℕ)) → AreStationWords (xs ++ ys) → Reached (done ++ record { says = xs; delivery = each [] } ∷ []) → Reached (done ++ record { says = xs ++ ys; delivery = each [] } ∷ [])
+says_reached : (done : List Turn) (xs ys : List (ℕ × List ℕ)) → AreStationWords (xs ++ ys) → Reached (done ++ record { says = xs; delivery = each [] } ∷ [])
+    → Reached (done ++ record { says = xs ++ ys; delivery = each [] } ∷ [])
 says_reached done xs [] are reached = rw append-nil reached
 says_reached done xs (y ∷ ys) are reached =
     let said : with_say (done ++ record { says = xs; delivery = each [] } ∷ []) y ≡ Ok (done ++ record { says = xs ++ y ∷ []; delivery = each [] } ∷ []) = say_at done (record { says = xs; delivery = each [] }) y ∙ rw (next_is xs ys y are.rising) refl in
@@ -169,7 +172,8 @@ says_reached done xs (y ∷ ys) are reached =
     subst (λ (es : List (ℕ × List ℕ)). Reached (done ++ record { says = es; delivery = each [] } ∷ [])) same (says_reached done (xs ++ y ∷ []) ys (subst AreStationWords (sym same) are) more)
 
 -- the words dealt, one after another
-dealt_reached : (done : List Turn) (says xs ys : List (ℕ × List ℕ)) → AreStationWords (xs ++ ys) → Reached (done ++ record { says = says; delivery = each xs } ∷ []) → Reached (done ++ record { says = says; delivery = each (xs ++ ys) } ∷ [])
+dealt_reached : (done : List Turn) (says xs ys : List (ℕ × List ℕ)) → AreStationWords (xs ++ ys) → Reached (done ++ record { says = says; delivery = each xs } ∷ [])
+    → Reached (done ++ record { says = says; delivery = each (xs ++ ys) } ∷ [])
 dealt_reached done says xs [] are reached = rw append-nil reached
 dealt_reached done says xs (y ∷ ys) are reached =
     let dealt : with_to (done ++ record { says = says; delivery = each xs } ∷ []) y ≡ Ok (done ++ record { says = says; delivery = each (xs ++ y ∷ []) } ∷ []) = to_at done says xs y ∙ rw (next_is xs ys y are.rising) refl in
@@ -178,7 +182,8 @@ dealt_reached done says xs (y ∷ ys) are reached =
     subst (λ (es : List (ℕ × List ℕ)). Reached (done ++ record { says = says; delivery = each es } ∷ [])) same (dealt_reached done says (xs ++ y ∷ []) ys (subst AreStationWords (sym same) are) more)
 
 -- a delivery, whichever
-delivery_reached : (done : List Turn) (says : List (ℕ × List ℕ)) (d : Delivery) → IsTurn (record { says = says; delivery = d }) → Reached (done ++ record { says = says; delivery = each [] } ∷ []) → Reached (done ++ record { says = says; delivery = d } ∷ [])
+delivery_reached : (done : List Turn) (says : List (ℕ × List ℕ)) (d : Delivery) → IsTurn (record { says = says; delivery = d })
+    → Reached (done ++ record { says = says; delivery = each [] } ∷ []) → Reached (done ++ record { says = says; delivery = d } ∷ [])
 delivery_reached done says all_sum is reached =
     one_more_item (done ++ record { says = says; delivery = each [] } ∷ []) AllLine (done ++ record { says = says; delivery = all_sum } ∷ []) reached tt (all_at done (record { says = says; delivery = each [] }))
 delivery_reached done says (each dealt) is reached = dealt_reached done says [] dealt (is.dealt_words dealt refl) reached
@@ -229,10 +234,10 @@ pub script_read : (bytes : List ℕ) (turns : List Turn) → IsScript turns → 
 unfolding script_by_turns
 script_read bytes turns is e =
     let reached = script_reached turns is in
-    let body : lines_from 0 turns ≡ text_file reached.texts = texts_spelled with_text (lines_from 0) text_lines [] turns reached.texts reached.made in
+    let body : lines_from 0 turns ≡ text_file reached.texts = texts_spelled turns_with_line (lines_from 0) text_lines [] turns reached.texts reached.made in
     let head : IsTextLine (codes "dcscript 1") = printable_by_test (codes "dcscript 1") refl in
     let whole : file_lines bytes ≡ ended (codes "dcscript 1") ∷ map ended reached.texts = ap file_lines (e ∙ ap (λ (ls : List ℕ). line (codes "dcscript 1") ++ ls) body) ∙ lines_of_text_file (codes "dcscript 1" ∷ reached.texts) (All-cons IsTextLine (codes "dcscript 1") reached.texts head reached.are_lines) in
-    let read = lines_of_texts at_line NotText with_text 2 [] turns reached.texts reached.are_lines reached.made in
+    let read = lines_of_texts script_fault NotText turns_with_line 2 [] turns reached.texts reached.are_lines reached.made in
     rw (whole, read, turns_done turns is.are_turns) refl
 
 -- ---- an answer
@@ -240,11 +245,6 @@ script_read bytes turns is e =
 -- turns that do not wait after all lines are a script
 pub lines_are_script : (lines : List Line) (turns : List Turn) (number : ℕ) → turns_in lines ≡ Ok (turns, number) → is_waiting turns ≡ false → IsScript turns
 lines_are_script lines turns number e done = (body_found lines turns (rw (e, done) refl)).is_script
-
--- a first line that is another
-pub other_head : (bytes text : List ℕ) → IsFirstLine bytes text → bytes_eq text (codes "dcscript 1") ≡ false → script_by_turns bytes ≡ Err (at_line 1 Header)
-unfolding script_by_turns
-other_head bytes text first other = rw (first.stands_first, text_in-ended text first.is_text, other) refl
 
 -- what is read is spelled so
 pub answer_found : (bytes : List ℕ) (r : Result (List Turn) (Refusal ScriptFault)) → Answers r (script_by_turns bytes) → IfOk r (λ s. IsScript s × (bytes ≡ script_text s))

@@ -11,16 +11,16 @@ use Rattle.dc_script.specs.declared.item.Item.{Item}
 use Rattle.dc_script.specs.declared.item.Item.TheVariants.{RoundLine, SayLine, AllLine, ToLine}
 
 -- a station with a word, where the number is below 65536 and the word is one
-abbrev pub entry_of : Option ℕ → Result (List ℕ) WordFault → Option (ℕ × List ℕ)
-entry_of None word = None
-entry_of (Some i) (Err fault) = None
-entry_of (Some i) (Ok word) = if nat_lt 65535 i then None else Some (i, word)
+abbrev pub station_with_word : Option ℕ → Result (List ℕ) WordFault → Option (ℕ × List ℕ)
+station_with_word None word = None
+station_with_word (Some i) (Err fault) = None
+station_with_word (Some i) (Ok word) = if nat_lt 65535 i then None else Some (i, word)
 
 -- a number, a blank, and a word in the last eighty characters
 abbrev pub entry_in : List ℕ → Option (ℕ × List ℕ)
 entry_in text =
     if nat_lt (length text) 81 then None
-    else if slice_index text (length text - 81) == 32 then entry_of (number_in (take (length text - 81) text)) (word_of_text (drop (length text - 81 + 1) text))
+    else if slice_index text (length text - 81) == 32 then station_with_word (number_in (take (length text - 81) text)) (word_of_text (drop (length text - 81 + 1) text))
     else None
 
 -- `round R`, `say I WORD`, `all` or `to I WORD`
@@ -47,7 +47,7 @@ item_text (ToLine e) = entry_text (codes "to ") e
 abbrev pub IsEntry : ℕ × List ℕ → Type 0
 IsEntry e = (e.0 < 65536) × IsWord e.1
 
--- an item that a line may tell
+-- an item that a line may spell
 abbrev pub IsItem : Item → Type 0
 IsItem (RoundLine r) = r < 2 ^ 32
 IsItem (SayLine e) = IsEntry e

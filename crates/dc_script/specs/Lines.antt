@@ -1,12 +1,13 @@
 -- The fault of a line by the lines before it, and the turns that lines make.
 use Rattle.std.specs.Prelude.{ℕ, ◌-◌, ◌==◌, Bool, true, false, not, ◌&&◌, ◌||◌, List, [], ◌∷◌, length, map, slice_index_or, nat_le, Option, Some, None, if◌then◌else◌}
 use Rattle.std.specs.List.{filter_map, list_any}
+use Rattle.dc_spec.specs.Limits.{most_words}
 use Rattle.dc_spec.specs.Scripts.{all_sum, each, Turn}
 use Rattle.dc_script.specs.declared.fault.ScriptKind.{ScriptKind}
 use Rattle.dc_script.specs.declared.fault.ScriptKind.TheVariants.{Round, TooMany, Misplaced, Order, Missing}
 use Rattle.dc_script.specs.declared.item.Item.{Item}
 use Rattle.dc_script.specs.declared.item.Item.TheVariants.{RoundLine, SayLine, AllLine, ToLine}
-use Rattle.dc_script.specs.Turns.{told_count, is_next}
+use Rattle.dc_script.specs.Turns.{reported_count, is_above_last}
 
 -- whether a line begins a round
 abbrev pub is_round : Item → Bool
@@ -65,14 +66,14 @@ lacks_delivery items = nat_le 1 (round_count items) && not (has_delivery (since_
 
 -- a station has to be greater than that of the line before of its kind
 abbrev pub order_fault : ℕ → List (ℕ × List ℕ) → Option ScriptKind
-order_fault i entries = if is_next i entries then None else Some (Order i)
+order_fault i entries = if is_above_last i entries then None else Some (Order i)
 
 -- the fault of a line after others: at a round line the round before, the number, the limit; else its place, then its station
 abbrev pub item_fault : List Item → Item → Option ScriptKind
 item_fault before (RoundLine r) =
     if lacks_delivery before then Some Missing
-    else if not (r == round_count before) then Some (Round r (told_count (round_count before)))
-    else if nat_le 4096 (round_count before) then Some TooMany
+    else if not (r == round_count before) then Some (Round r (reported_count (round_count before)))
+    else if nat_le most_words (round_count before) then Some TooMany
     else None
 item_fault before (SayLine e) = if not (lacks_delivery before) then Some Misplaced else order_fault e.0 (said (since_round before))
 item_fault before AllLine = if not (lacks_delivery before) then Some Misplaced else None
@@ -81,9 +82,9 @@ item_fault before (ToLine e) =
     else order_fault e.0 (dealt (since_round before))
 
 -- the turn of a round's lines
-abbrev pub turn_of : List Item → Turn
-turn_of items = record { says = said items; delivery = if has_all items then all_sum else each (dealt items) }
+abbrev pub turn_of_items : List Item → Turn
+turn_of_items items = record { says = said items; delivery = if has_all items then all_sum else each (dealt items) }
 
 -- the turns of all rounds
-abbrev pub turns_of : List Item → List Turn
-turns_of items = map turn_of (rounds_in items)
+abbrev pub turns_of_items : List Item → List Turn
+turns_of_items items = map turn_of_items (rounds_in items)

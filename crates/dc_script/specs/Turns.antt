@@ -1,5 +1,6 @@
 -- The turns that the lines so far make, and one line more. A turn has dealt no word until its delivery is known.
 use Rattle.std.specs.Prelude.{ℕ, ◌-◌, ◌^◌, ◌==◌, min, Bool, false, not, ◌&&◌, ◌||◌, List, [], ◌∷◌, ◌++◌, length, take, slice_index_or, nat_le, nat_lt, if◌then◌else◌, Result, Ok, Err}
+use Rattle.dc_spec.specs.Limits.{most_words}
 use Rattle.dc_spec.specs.Scripts.{Delivery, all_sum, each, Turn}
 use Rattle.dc_script.specs.declared.fault.ScriptKind.{ScriptKind}
 use Rattle.dc_script.specs.declared.fault.ScriptKind.TheVariants.{Round, TooMany, Misplaced, Order, Missing}
@@ -27,26 +28,26 @@ is_undelivered (each dealt) = length dealt == 0
 abbrev pub is_waiting : List Turn → Bool
 is_waiting turns = nat_le 1 (length turns) && is_undelivered (last_turn turns).delivery
 
--- a count as a fault tells it
-abbrev pub told_count : ℕ → ℕ
-told_count n = min n (2 ^ 32 - 1)
+-- a count as a fault reports it
+abbrev pub reported_count : ℕ → ℕ
+reported_count n = min n (2 ^ 32 - 1)
 
 -- one more round
 abbrev pub with_round : List Turn → ℕ → Result (List Turn) ScriptKind
 with_round turns r =
     if is_waiting turns then Err Missing
-    else if not (r == length turns) then Err (Round r (told_count (length turns)))
-    else if nat_le 4096 (length turns) then Err TooMany
+    else if not (r == length turns) then Err (Round r (reported_count (length turns)))
+    else if nat_le most_words (length turns) then Err TooMany
     else Ok (turns ++ begun_turn ∷ [])
 
 -- whether a station is greater than the last of a list
-abbrev pub is_next : ℕ → List (ℕ × List ℕ) → Bool
-is_next i entries = length entries == 0 || nat_lt (slice_index_or entries (length entries - 1) (0, [])).0 i
+abbrev pub is_above_last : ℕ → List (ℕ × List ℕ) → Bool
+is_above_last i entries = length entries == 0 || nat_lt (slice_index_or entries (length entries - 1) (0, [])).0 i
 
 -- one more word said
 abbrev pub with_said : List Turn → Turn → ℕ × List ℕ → Result (List Turn) ScriptKind
 with_said turns turn e =
-    if not (is_next e.0 turn.says) then Err (Order e.0)
+    if not (is_above_last e.0 turn.says) then Err (Order e.0)
     else Ok (with_last turns (record turn { says = turn.says ++ e ∷ [] }))
 
 -- one more line of a word said
@@ -61,7 +62,7 @@ with_all turns = if is_waiting turns then Ok (with_last turns (record (last_turn
 abbrev pub with_dealt : List Turn → Turn → Delivery → ℕ × List ℕ → Result (List Turn) ScriptKind
 with_dealt turns turn all_sum e = Err Misplaced
 with_dealt turns turn (each dealt) e =
-    if not (is_next e.0 dealt) then Err (Order e.0)
+    if not (is_above_last e.0 dealt) then Err (Order e.0)
     else Ok (with_last turns (record turn { delivery = each (dealt ++ e ∷ []) }))
 
 -- one more line of a word dealt

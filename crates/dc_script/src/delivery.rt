@@ -12,7 +12,7 @@ use std::alloc::Global;
 pub enum Delivery {
     /// The sum of all words.
     Sum,
-    /// A word of the coalition's for each of them.
+    /// A word of the coalition's choice for each of them.
     Each {
         /// The honest stations with their words.
         words: Dealt,
@@ -20,7 +20,7 @@ pub enum Delivery {
 }
 
 impl Delivery {
-    /// The same delivery again.
+    /// A copy of the delivery.
     pub fn copy(&self, alloc: Global) -> Result<Delivery, NoMemory>
         ensures { IfOk result (λ d. delivered d ≡ delivered self.now) }
     {

@@ -1,6 +1,6 @@
-//! Why bytes are no script.
+//! Why bytes are not a script.
 
-/// The first fault of a script file.
+/// The first fault of a script file, the format of which is this project's own.
 #[derive(Clone, Copy, Debug, PartialEq, Eq)]
 pub struct ScriptFault {
     /// The number of the faulty line, from 1; the greatest `u32` where it is above that.
@@ -20,7 +20,7 @@ pub enum ScriptKind {
     Form,
     /// A round has another number than that of the rounds before it.
     Round {
-        /// The number that is told.
+        /// The number in the line.
         told: u32,
         /// How many rounds there are so far.
         due: u32,
@@ -34,6 +34,7 @@ pub enum ScriptKind {
         /// The station of this line.
         station: u16,
     },
-    /// A round without a delivery: told at the next round's line, or one past the last line.
+    /// A round has no delivery. It is reported at the next round's line, or at the line past the
+    /// last.
     Missing,
 }

@@ -19,7 +19,7 @@ pub enum Item {
     ToLine(Said),
 }
 
-/// What a line says; None where it is of no form.
+/// The item of a line; None where the line is none of the four forms.
 pub(crate) fn read_item(text: &[u8]) -> Option<Item>
     ensures { result ≡ item_in text.now }
 {

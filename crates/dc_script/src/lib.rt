@@ -20,6 +20,3 @@ pub use round::{Round, Rounds};
 pub use said::{Dealt, Said};
 pub use script::Script;
 pub use writing::script_text;
-
-#[cfg(test)]
-mod tests;

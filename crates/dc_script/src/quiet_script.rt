@@ -2,6 +2,7 @@
 
 ghost use Rattle.std.specs.Prelude.{◌≡◌, ◌<◌, ◌≤◌, IfOk, All, map, filter, replicate};
 ghost use Rattle.std.specs.List.{range_with_len};
+ghost use Rattle.dc_spec.specs.Limits.{most_words};
 ghost use Rattle.dc_spec.specs.Words.{zero_word};
 ghost use Rattle.dc_spec.specs.Lists.{is_among};
 ghost use Rattle.dc_graph.specs.Graph.{AreMembers};
@@ -20,17 +21,17 @@ use std::alloc::Global;
 pub fn quiet(alloc: Global, c: &Coalition, n: u16, words: u16) -> Result<Script, NoMemory>
     requires members { All (λ m. m < n) c.now }
     requires some_words { 1 ≤ words }
-    requires most_words { words ≤ 4096 }
+    requires most_words { words ≤ most_words }
     ensures { IfOk result (λ s. s ≡ quiet_script c.now words) }
 {
-    hold_members(c);
+    note_members(c);
     let rounds = quiet_rounds(alloc, c, n, words)?;
     Ok(Script {
         rounds: Rounds::from_vec(rounds),
     })
 }
 
-/// So many quiet rounds.
+/// The given number of quiet rounds.
 fn quiet_rounds(alloc: Global, c: &Coalition, n: u16, words: u16) -> Result<Vec<Round>, NoMemory>
     requires { All (λ m. m < n) c.now }
     ensures { IfOk result (λ rounds. rounds.items ≡ quiet_script c.now words) }
@@ -59,7 +60,7 @@ fn zero_words(alloc: Global, c: &Coalition, n: u16) -> Result<Vec<Said>, NoMemor
     requires { All (λ m. m < n) c.now }
     ensures { IfOk result (λ says. says.items ≡ quiet_says c.now) }
 {
-    hold_members(c);
+    note_members(c);
     let mut says = Vec::with_capacity(alloc, usize::from(c.len()))?;
     for station in 0..n {
         if c.holds(station) {
@@ -72,9 +73,9 @@ fn zero_words(alloc: Global, c: &Coalition, n: u16) -> Result<Vec<Said>, NoMemor
     Ok(says)
 }
 
-/// The members of a coalition are stations, each once, rising.
-fn hold_members(c: &Coalition)
+/// Gives the prover a fact and does nothing: the members are stations, each once, rising.
+fn note_members(c: &Coalition)
     ensures { AreMembers c.now }
 {
-    let _holds = c.holds(0);
+    let _ = c.holds(0);
 }

@@ -8,7 +8,7 @@ use dc_field::{Items, NoMemory, TryClone};
 use std::alloc::Global;
 use std::marker::Model;
 
-/// What the members of the coalition say in a round, and what is delivered. Contracts see the
+/// What the members of the coalition say in a round, and what is delivered. In contracts it is the
 /// protocol's record of a turn.
 #[derive(Debug, Drop)]
 pub struct Round {
@@ -30,7 +30,7 @@ impl Model for Round {
     ghost view = { λ r. record { says = r.says; delivery = delivered r.delivery } };
 }
 
-/// The same round again.
+/// A copy of the round.
 impl TryClone for Round {
     fn try_clone(&self, alloc: Global) -> Result<Round, NoMemory> {
         let says = self.says.copy(alloc)?;

@@ -1,6 +1,7 @@
 //! What a coalition does in a session.
 
 ghost use Rattle.std.specs.Prelude.{◌≡◌, ◌<◌, [], ◌∷◌, ◌++◌, IfOk, length};
+ghost use Rattle.dc_spec.specs.Limits.{most_words};
 ghost use Rattle.dc_formats.specs.ScriptFile.{IsTurn};
 
 use crate::round::{Round, Rounds};
@@ -8,7 +9,7 @@ use dc_field::NoMemory;
 use std::alloc::Global;
 use std::marker::Model;
 
-/// The script of a coalition.
+/// The script of a coalition, as in a script file.
 #[derive(Debug, Drop)]
 pub struct Script {
     /// At most 4096; in each the stations are rising, and where words are dealt there is one at
@@ -29,7 +30,7 @@ impl Model for Script {
 }
 
 impl Script {
-    /// A script of no rounds. Takes no memory.
+    /// A script without rounds.
     pub fn empty(alloc: Global) -> Script
         ensures { result ≡ [] }
     {
@@ -38,9 +39,9 @@ impl Script {
         }
     }
 
-    /// The script with one more round. After want of memory it is gone.
+    /// The script with one more round at its end. Out of memory, the script is dropped.
     pub fn with_round(self, round: Round) -> Result<Script, NoMemory>
-        requires room { length self < 4096 }
+        requires room { length self < most_words }
         requires turn { IsTurn round }
         ensures { IfOk result (λ s. s ≡ self ++ round ∷ []) }
     {
@@ -52,7 +53,7 @@ impl Script {
         })
     }
 
-    /// The same script again.
+    /// A copy of the script.
     pub fn copy(&self, alloc: Global) -> Result<Script, NoMemory>
         ensures { IfOk result (λ s. s ≡ self.now) }
     {

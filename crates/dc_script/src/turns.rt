@@ -6,7 +6,7 @@ ghost use Rattle.dc_field.specs.declared.refusal.Refusal.TheVariants.{Bad};
 ghost use Rattle.dc_spec.specs.Scripts.{Turn};
 ghost use Rattle.dc_script.specs.declared.fault.ScriptKind.TheVariants.{Order};
 ghost use Rattle.dc_script.specs.Delivered.{delivered};
-ghost use Rattle.dc_script.specs.Turns.{begun_turn, last_turn, is_undelivered, is_waiting, told_count, is_next, with_round, with_said, with_say, with_all, with_dealt, with_to, with_item};
+ghost use Rattle.dc_script.specs.Turns.{begun_turn, last_turn, is_undelivered, is_waiting, reported_count, is_above_last, with_round, with_said, with_say, with_all, with_dealt, with_to, with_item};
 
 use crate::delivery::Delivery;
 use crate::fault::ScriptKind;
@@ -15,6 +15,9 @@ use crate::round::{Round, Rounds};
 use crate::said::{Dealt, Said};
 use dc_field::Refusal;
 use std::alloc::Global;
+
+/// How many rounds a script has at most.
+const MOST_ROUNDS: usize = 4096;
 
 /// The rounds with one more line.
 pub(crate) fn with_item(
@@ -43,19 +46,19 @@ fn with_round(alloc: Global, rounds: Rounds, number: u32) -> Result<Rounds, Refu
     if number as usize != items.len() {
         return Err(Refusal::Bad(ScriptKind::Round {
             told: number,
-            due: told_count(items.len()),
+            due: reported_count(items.len()),
         }));
     }
-    if 4096 <= items.len() {
+    if MOST_ROUNDS <= items.len() {
         return Err(Refusal::Bad(ScriptKind::TooMany));
     }
     items.push(begun_round(alloc))?;
     Ok(Rounds::from_vec(items))
 }
 
-/// A count as a fault tells it.
-fn told_count(count: usize) -> u32
-    ensures { result ≡ told_count count }
+/// A count as a fault reports it: at most the greatest `u32`.
+fn reported_count(count: usize) -> u32
+    ensures { result ≡ reported_count count }
 {
     if count < u32::MAX as usize {
         count as u32
@@ -64,7 +67,7 @@ fn told_count(count: usize) -> u32
     }
 }
 
-/// A round of which its number alone is known.
+/// A round of which only the number is known.
 fn begun_round(alloc: Global) -> Round
     ensures { result ≡ begun_turn }
 {
@@ -97,8 +100,8 @@ fn is_undelivered(delivery: &Delivery) -> bool
 }
 
 /// Whether a station is greater than the last of a list.
-fn is_next(station: u16, entries: &[Said]) -> bool
-    ensures { result ≡ is_next station entries.now }
+fn is_above_last(station: u16, entries: &[Said]) -> bool
+    ensures { result ≡ is_above_last station entries.now }
 {
     match entries.last() {
         Some(last) => last.station < station,
@@ -116,7 +119,8 @@ fn out_of_order(station: u16) -> Refusal<ScriptKind>
 /// The rounds without the last one, and the last one.
 fn split_last(rounds: Rounds) -> Option<(Rounds, Round)>
     ensures none { IsNone result ↔ (length rounds ≡ 0) }
-    ensures some { IfSome result (λ p. (p.0 ≡ take (length rounds - 1) rounds) × (p.1 ≡ last_turn rounds)) }
+    ensures some { IfSome result (λ p. (p.0 ≡ take (length rounds - 1) rounds) × (p.1 ≡
+        last_turn rounds)) }
 {
     let mut items = rounds.into_vec();
     let last = items.pop()?;
@@ -147,10 +151,11 @@ fn with_say(rounds: Rounds, entry: Said) -> Result<Rounds, Refusal<ScriptKind>>
 
 /// One more word said in a round.
 fn with_said(before: Rounds, last: Round, said: Said) -> Result<Rounds, Refusal<ScriptKind>>
-    ensures { (turns : List Turn) → before ≡ take (length turns - 1) turns → Answers result (with_said turns last said) }
+    ensures { (turns : List Turn) → before ≡ take (length turns - 1) turns →
+        Answers result (with_said turns last said) }
 {
     let Round { says, delivery } = last;
-    if !is_next(said.station, says.as_slice()) {
+    if !is_above_last(said.station, says.as_slice()) {
         return Err(out_of_order(said.station));
     }
     let mut items = says.into_vec();
@@ -199,13 +204,14 @@ fn with_to(rounds: Rounds, entry: Said) -> Result<Rounds, Refusal<ScriptKind>>
 
 /// One more word dealt in a round.
 fn with_dealt(before: Rounds, last: Round, dealt: Said) -> Result<Rounds, Refusal<ScriptKind>>
-    ensures { (turns : List Turn) → before ≡ take (length turns - 1) turns → Answers result (with_dealt turns last last.delivery dealt) }
+    ensures { (turns : List Turn) → before ≡ take (length turns - 1) turns →
+        Answers result (with_dealt turns last last.delivery dealt) }
 {
     let Round { says, delivery } = last;
     match delivery {
         Delivery::Sum => Err(Refusal::Bad(ScriptKind::Misplaced)),
         Delivery::Each { words } => {
-            if !is_next(dealt.station, words.as_slice()) {
+            if !is_above_last(dealt.station, words.as_slice()) {
                 return Err(out_of_order(dealt.station));
             }
             let mut items = words.into_vec();

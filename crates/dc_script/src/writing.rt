@@ -28,7 +28,8 @@ pub fn script_text(alloc: Global, s: &Script) -> Result<Bytes, NoMemory>
 
 /// Puts rounds, numbered from 0.
 fn put_rounds(text: &mut Vec<u8>, rounds: &[Round]) -> Result<(), NoMemory>
-    ensures { IfOk result (λ _. text.new.items ≡ text.old.items ++ flat_map (λ t. turn_lines t.0 t.1) (enumerate_from 0 rounds.now)) }
+    ensures { IfOk result (λ _. text.new.items ≡ text.old.items ++
+        flat_map (λ t. turn_lines t.0 t.1) (enumerate_from 0 rounds.now)) }
 {
     for (r, round) in rounds.iter().enumerate() {
         put_round(text, r, round)?;
@@ -47,7 +48,8 @@ fn put_round(text: &mut Vec<u8>, r: usize, round: &Round) -> Result<(), NoMemory
 
 /// Puts the line of a round's number.
 fn put_number(text: &mut Vec<u8>, r: usize) -> Result<(), NoMemory>
-    ensures { IfOk result (λ _. text.new.items ≡ text.old.items ++ line (codes "round " ++ decimal r)) }
+    ensures { IfOk result (λ _. text.new.items ≡ text.old.items ++ line (codes "round " ++
+        decimal r)) }
 {
     let mut buffer = Buffer::new();
     text.extend_from_slice(b"round ")?;
@@ -58,7 +60,8 @@ fn put_number(text: &mut Vec<u8>, r: usize) -> Result<(), NoMemory>
 
 /// Puts the one line `all`, or a line for each dealt word.
 fn put_delivery(text: &mut Vec<u8>, delivery: &Delivery) -> Result<(), NoMemory>
-    ensures { IfOk result (λ _. text.new.items ≡ text.old.items ++ delivery_lines (delivered delivery.now)) }
+    ensures { IfOk result (λ _. text.new.items ≡ text.old.items ++
+        delivery_lines (delivered delivery.now)) }
 {
     match delivery {
         Delivery::Sum => {
@@ -71,7 +74,8 @@ fn put_delivery(text: &mut Vec<u8>, delivery: &Delivery) -> Result<(), NoMemory>
 
 /// Puts a line for each station with its word.
 fn put_entries(text: &mut Vec<u8>, beginning: &[u8], entries: &[Said]) -> Result<(), NoMemory>
-    ensures { IfOk result (λ _. text.new.items ≡ text.old.items ++ flat_map (λ d. station_word_line beginning.now d.0 d.1) entries.now) }
+    ensures { IfOk result (λ _. text.new.items ≡
+        text.old.items ++ flat_map (λ d. station_word_line beginning.now d.0 d.1) entries.now) }
 {
     for entry in entries {
         put_entry(text, beginning, entry)?;
@@ -81,7 +85,8 @@ fn put_entries(text: &mut Vec<u8>, beginning: &[u8], entries: &[Said]) -> Result
 
 /// Puts the line of a station with its word.
 fn put_entry(text: &mut Vec<u8>, beginning: &[u8], entry: &Said) -> Result<(), NoMemory>
-    ensures { IfOk result (λ _. text.new.items ≡ text.old.items ++ station_word_line beginning.now entry.now.0 entry.now.1) }
+    ensures { IfOk result (λ _. text.new.items ≡ text.old.items ++
+        station_word_line beginning.now entry.now.0 entry.now.1) }
 {
     let mut buffer = Buffer::new();
     text.extend_from_slice(beginning)?;

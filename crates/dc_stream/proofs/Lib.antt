@@ -1,3 +1,4 @@
 mod Lengths
-mod Lines
 mod Rereading
+mod SameReading
+mod ReaderTests

@@ -23,11 +23,12 @@ use Rattle.dc_field.proofs.NumberText.{number_in-decimal, written_so}
 use Rattle.dc_text.specs.Payload.{payload_in}
 use Rattle.dc_text.proofs.LineByLine.{with_texts, with_texts-append, file_is_read, file_is_spelled, texts_of_lines, texts_keep}
 use Rattle.dc_text.proofs.PayloadDigits.{payload_in-hex_text, hex_text-payload_in}
-use Rattle.dc_field.proofs.ReaderTests.{passed}
+use Rattle.dc_stream.proofs.ReaderTests.{passed}
 use Rattle.dc_stream.specs.declared.fault.StreamFault.{StreamFault}
 use Rattle.dc_stream.specs.declared.fault.StreamKind.{StreamKind}
 use Rattle.dc_stream.specs.declared.fault.StreamKind.TheVariants.{NotText}
-use Rattle.dc_stream.specs.Reading.{short_of, with_short, long_of, with_long, coin_of, with_coin, stream_with, at_line, nothing, stream_of}
+use Rattle.dc_stream.specs.Reading.{stream_fault}
+use Rattle.dc_stream.specs.ReadingByLists.{short_into_lists, lists_with_short, long_into_lists, lists_with_long, coin_into_lists, lists_with_coin, lists_with_line, nothing, stream_by_lists}
 
 -- ---- what a line that is read adds
 
@@ -46,7 +47,8 @@ pub record AddsShort (s : Stream) (rest : List ℕ) (next : Stream) : Type 0 whe
   pub no_coins : length s.coins ≡ 0
   pub is : record s { shorts = s.shorts ++ value ∷ [] } ≡ next
 
-short_added : (s next : Stream) (rest : List ℕ) (o : Option (List ℕ)) → length s.shorts < 4096 → length s.longs ≡ 0 → length s.coins ≡ 0 → payload_in rest ≡ o → short_of s o ≡ Ok next → AddsShort s rest next
+short_added : (s next : Stream) (rest : List ℕ) (o : Option (List ℕ)) → length s.shorts < 4096 → length s.longs ≡ 0 → length s.coins ≡ 0 → payload_in rest ≡ o
+    → short_into_lists s o ≡ Ok next → AddsShort s rest next
 short_added s next rest None room longs coins read e = absurd cc
 short_added s next rest (Some value) room longs coins read e =
     let long = needed (eqb (length value) 15) _ (record s { shorts = s.shorts ++ value ∷ [] }) next e in
@@ -57,8 +59,8 @@ both true true e = (refl, refl)
 both true false e = absurd cc
 both false b e = absurd cc
 
-adds_short : (s next : Stream) (rest : List ℕ) → with_short s rest ≡ Ok next → AddsShort s rest next
-unfolding with_short
+adds_short : (s next : Stream) (rest : List ℕ) → lists_with_short s rest ≡ Ok next → AddsShort s rest next
+unfolding lists_with_short
 adds_short s next rest e =
     let order = passed (not (eqb (length s.longs) 0 && eqb (length s.coins) 0)) _ _ next e in
     let room = passed (leb 4096 (length s.shorts)) _ _ next order.1 in
@@ -75,14 +77,14 @@ pub record AddsLong (s : Stream) (rest : List ℕ) (next : Stream) : Type 0 wher
   pub no_coins : length s.coins ≡ 0
   pub is : record s { longs = s.longs ++ message ∷ [] } ≡ next
 
-long_added : (s next : Stream) (rest : List ℕ) (o : Option (List ℕ)) → length s.longs < 256 → length s.coins ≡ 0 → payload_in rest ≡ o → long_of s o ≡ Ok next → AddsLong s rest next
+long_added : (s next : Stream) (rest : List ℕ) (o : Option (List ℕ)) → length s.longs < 256 → length s.coins ≡ 0 → payload_in rest ≡ o → long_into_lists s o ≡ Ok next → AddsLong s rest next
 long_added s next rest None room coins read e = absurd cc
 long_added s next rest (Some message) room coins read e =
     let long = needed (leb (length message) 3838) _ (record s { longs = s.longs ++ message ∷ [] }) next e in
     record { message = message; read = read; most = leb-true _ _ long.0; room = room; no_coins = coins; is = long.1 }
 
-adds_long : (s next : Stream) (rest : List ℕ) → with_long s rest ≡ Ok next → AddsLong s rest next
-unfolding with_long
+adds_long : (s next : Stream) (rest : List ℕ) → lists_with_long s rest ≡ Ok next → AddsLong s rest next
+unfolding lists_with_long
 adds_long s next rest e =
     let order = passed (not (eqb (length s.coins) 0)) _ _ next e in
     let room = passed (leb 256 (length s.longs)) _ _ next order.1 in
@@ -97,14 +99,14 @@ pub record AddsCoin (s : Stream) (rest : List ℕ) (next : Stream) : Type 0 wher
   pub room : length s.coins < 4096
   pub is : record s { coins = s.coins ++ field ∷ [] } ≡ next
 
-coin_added : (s next : Stream) (rest : List ℕ) (o : Option ℕ) → length s.coins < 4096 → number_in rest ≡ o → coin_of s o ≡ Ok next → AddsCoin s rest next
+coin_added : (s next : Stream) (rest : List ℕ) (o : Option ℕ) → length s.coins < 4096 → number_in rest ≡ o → coin_into_lists s o ≡ Ok next → AddsCoin s rest next
 coin_added s next rest None room read e = absurd cc
 coin_added s next rest (Some field) room read e =
     let small = needed (ltb field 16) _ (record s { coins = s.coins ++ field ∷ [] }) next e in
     record { field = field; read = read; is_field = ltb-true _ _ small.0; room = room; is = small.1 }
 
-adds_coin : (s next : Stream) (rest : List ℕ) → with_coin s rest ≡ Ok next → AddsCoin s rest next
-unfolding with_coin
+adds_coin : (s next : Stream) (rest : List ℕ) → lists_with_coin s rest ≡ Ok next → AddsCoin s rest next
+unfolding lists_with_coin
 adds_coin s next rest e =
     let room = passed (leb 4096 (length s.coins)) _ _ next e in
     coin_added s next rest (number_in rest) (leb-false _ _ room.0) refl room.1
@@ -117,15 +119,18 @@ record Goes (s next : Stream) (text : List ℕ) : Type 0 where
   kept : IsStream s → IsStream next
 
 -- shorts stand alone, so one more stands at the end
-short_last : (shorts longs : List (List ℕ)) (coins value : List ℕ) → longs ≡ [] → coins ≡ [] → stream_text (record { shorts = shorts ++ value ∷ []; longs = longs; coins = coins }) ≡ stream_text (record { shorts = shorts; longs = longs; coins = coins }) ++ short_line value
+short_last : (shorts longs : List (List ℕ)) (coins value : List ℕ) → longs ≡ [] → coins ≡ []
+    → stream_text (record { shorts = shorts ++ value ∷ []; longs = longs; coins = coins }) ≡ stream_text (record { shorts = shorts; longs = longs; coins = coins }) ++ short_line value
 short_last shorts longs coins value no_longs no_coins = rw (no_longs, no_coins) (simp (append-nil, flat_map-append))
 
 -- no coin stands after the longs
-long_last : (shorts longs : List (List ℕ)) (coins message : List ℕ) → coins ≡ [] → stream_text (record { shorts = shorts; longs = longs ++ message ∷ []; coins = coins }) ≡ stream_text (record { shorts = shorts; longs = longs; coins = coins }) ++ long_line message
+long_last : (shorts longs : List (List ℕ)) (coins message : List ℕ) → coins ≡ []
+    → stream_text (record { shorts = shorts; longs = longs ++ message ∷ []; coins = coins }) ≡ stream_text (record { shorts = shorts; longs = longs; coins = coins }) ++ long_line message
 long_last shorts longs coins message no_coins = rw no_coins (simp (append-nil, flat_map-append, append_assoc))
 
 -- coins stand last
-coin_last : (shorts longs : List (List ℕ)) (coins : List ℕ) (field : ℕ) → stream_text (record { shorts = shorts; longs = longs; coins = coins ++ field ∷ [] }) ≡ stream_text (record { shorts = shorts; longs = longs; coins = coins }) ++ coin_line field
+coin_last : (shorts longs : List (List ℕ)) (coins : List ℕ) (field : ℕ)
+    → stream_text (record { shorts = shorts; longs = longs; coins = coins ++ field ∷ [] }) ≡ stream_text (record { shorts = shorts; longs = longs; coins = coins }) ++ coin_line field
 coin_last shorts longs coins field = simp (append-nil, flat_map-append, append_assoc)
 
 -- a text that begins so
@@ -201,8 +206,8 @@ chosen true x r s e = inl (refl, e)
 chosen false x r s e = inr e
 
 -- each line that is read
-line_goes : (s next : Stream) (text : List ℕ) → stream_with s text ≡ Ok next → Goes s next text
-unfolding stream_with
+line_goes : (s next : Stream) (text : List ℕ) → lists_with_line s text ≡ Ok next → Goes s next text
+unfolding lists_with_line
 line_goes s next text e = elim (chosen (starts_with eqb text (codes "short ")) _ _ next e) [
   | inl short ↦ short_goes s next text short.0 (adds_short s next (drop 6 text) short.1)
   | inr other ↦ elim (chosen (starts_with eqb text (codes "long ")) _ _ next other) [
@@ -226,14 +231,14 @@ nothing_is = record {
 }
 
 -- what is read is within the limits and spelled so
-pub stream_read : (b : List ℕ) (s : Stream) → stream_of b ≡ Ok s → IsStream s × (b ≡ stream_text s)
+pub stream_read : (b : List ℕ) (s : Stream) → stream_by_lists b ≡ Ok s → IsStream s × (b ≡ stream_text s)
 stream_read b s e =
-    let read = texts_of_lines at_line NotText stream_with 1 nothing s (file_lines b) e in (
-      texts_keep stream_with IsStream (λ t next text is went. (line_goes t next text went).kept is) nothing s read.texts nothing_is read.made,
-      file_is_spelled at_line NotText stream_with stream_text (λ t next text went. (line_goes t next text went).spelled) 1 nothing s b refl e,
+    let read = texts_of_lines stream_fault NotText lists_with_line 1 nothing s (file_lines b) e in (
+      texts_keep lists_with_line IsStream (λ t next text is went. (line_goes t next text went).kept is) nothing s read.texts nothing_is read.made,
+      file_is_spelled stream_fault NotText lists_with_line stream_text (λ t next text went. (line_goes t next text went).spelled) 1 nothing s b refl e,
     )
 
-pub is_found : (b : List ℕ) (result : Result Stream (Refusal StreamFault)) → Answers result (stream_of b) → IfOk result (λ s. IsStream s × (b ≡ stream_text s))
+pub is_found : (b : List ℕ) (result : Result Stream (Refusal StreamFault)) → Answers result (stream_by_lists b) → IfOk result (λ s. IsStream s × (b ≡ stream_text s))
 is_found b (Ok s) given = stream_read b s given
 is_found b (Err refusal) given = tt
 
@@ -271,20 +276,21 @@ texts_are s is =
     (All-map IsTextLine coin_words s.coins (All-weaker (λ c. c < 16) (λ c. IsTextLine (coin_words c)) (λ c lt. words_are (codes "coin ") (decimal c) (printable_by_test (codes "coin ") refl) (decimal_figures c (omega arith))) s.coins is.are_fields))
 
 -- a short is read
-short_read : (s : Stream) (value : List ℕ) → IsValue value → length s.shorts < 4096 → s.longs ≡ [] → s.coins ≡ [] → stream_with s (short_words value) ≡ Ok (record s { shorts = s.shorts ++ value ∷ [] })
-unfolding stream_with with_short
+short_read : (s : Stream) (value : List ℕ) → IsValue value → length s.shorts < 4096 → s.longs ≡ [] → s.coins ≡ []
+    → lists_with_line s (short_words value) ≡ Ok (record s { shorts = s.shorts ++ value ∷ [] })
+unfolding lists_with_line lists_with_short
 short_read s value is room no_longs no_coins =
     rw (payload_in-hex_text value (bytes_of value is), no_longs, no_coins, lt-leb 4096 (length s.shorts) room, eq-eqb (length value) 15 is.fifteen) refl
 
 -- a long is read
-long_read : (s : Stream) (message : List ℕ) → IsMessage message → length s.longs < 256 → s.coins ≡ [] → stream_with s (long_words message) ≡ Ok (record s { longs = s.longs ++ message ∷ [] })
-unfolding stream_with with_long
+long_read : (s : Stream) (message : List ℕ) → IsMessage message → length s.longs < 256 → s.coins ≡ [] → lists_with_line s (long_words message) ≡ Ok (record s { longs = s.longs ++ message ∷ [] })
+unfolding lists_with_line lists_with_long
 long_read s message is room no_coins =
     rw (payload_in-hex_text message is.are_bytes, no_coins, lt-leb 256 (length s.longs) room, le-leb (length message) 3838 is.most) refl
 
 -- a coin is read
-coin_read : (s : Stream) (field : ℕ) → field < 16 → length s.coins < 4096 → stream_with s (coin_words field) ≡ Ok (record s { coins = s.coins ++ field ∷ [] })
-unfolding stream_with with_coin
+coin_read : (s : Stream) (field : ℕ) → field < 16 → length s.coins < 4096 → lists_with_line s (coin_words field) ≡ Ok (record s { coins = s.coins ++ field ∷ [] })
+unfolding lists_with_line lists_with_coin
 coin_read s field lt room =
     rw (number_in-decimal field (omega arith), lt-leb 4096 (length s.coins) room, lt-ltb field 16 lt) refl
 
@@ -294,7 +300,7 @@ one_after xs x others = append_assoc xs (x ∷ []) others
 
 -- all shorts are read
 shorts_read : (before values : List (List ℕ)) → All IsValue values → length before + length values ≤ 4096
-    → with_texts stream_with (record { shorts = before; longs = []; coins = [] }) (map short_words values) ≡ Ok (record { shorts = before ++ values; longs = []; coins = [] })
+    → with_texts lists_with_line (record { shorts = before; longs = []; coins = [] }) (map short_words values) ≡ Ok (record { shorts = before ++ values; longs = []; coins = [] })
 shorts_read before [] are room = rw (append-nil before) refl
 shorts_read before (v ∷ values) are room =
     rw (short_read (record { shorts = before; longs = []; coins = [] }) v (All-head IsValue v values are) (omega arith) refl refl, ← one_after before v values)
@@ -302,7 +308,7 @@ shorts_read before (v ∷ values) are room =
 
 -- all longs are read
 longs_read : (shorts before messages : List (List ℕ)) → All IsMessage messages → length before + length messages ≤ 256
-    → with_texts stream_with (record { shorts = shorts; longs = before; coins = [] }) (map long_words messages) ≡ Ok (record { shorts = shorts; longs = before ++ messages; coins = [] })
+    → with_texts lists_with_line (record { shorts = shorts; longs = before; coins = [] }) (map long_words messages) ≡ Ok (record { shorts = shorts; longs = before ++ messages; coins = [] })
 longs_read shorts before [] are room = rw (append-nil before) refl
 longs_read shorts before (m ∷ messages) are room =
     rw (long_read (record { shorts = shorts; longs = before; coins = [] }) m (All-head IsMessage m messages are) (omega arith) refl, ← one_after before m messages)
@@ -310,27 +316,27 @@ longs_read shorts before (m ∷ messages) are room =
 
 -- all coins are read
 coins_read : (shorts longs : List (List ℕ)) (before fields : List ℕ) → All (λ c. c < 16) fields → length before + length fields ≤ 4096
-    → with_texts stream_with (record { shorts = shorts; longs = longs; coins = before }) (map coin_words fields) ≡ Ok (record { shorts = shorts; longs = longs; coins = before ++ fields })
+    → with_texts lists_with_line (record { shorts = shorts; longs = longs; coins = before }) (map coin_words fields) ≡ Ok (record { shorts = shorts; longs = longs; coins = before ++ fields })
 coins_read shorts longs before [] are room = rw (append-nil before) refl
 coins_read shorts longs before (c ∷ fields) are room =
     rw (coin_read (record { shorts = shorts; longs = longs; coins = before }) c (All-head (λ c. c < 16) c fields are) (omega arith), ← one_after before c fields)
     (coins_read shorts longs (before ++ c ∷ []) fields (All-tail (λ c. c < 16) c fields are) (omega (arith, length_push before c)))
 
-append_first : (xs ys zs : List (List ℕ)) → with_texts stream_with nothing (xs ++ ys ++ zs) ≡ with_texts stream_with nothing (xs ++ (ys ++ zs))
-append_first xs ys zs = ap (with_texts stream_with nothing) (append_assoc xs ys zs)
+append_first : (xs ys zs : List (List ℕ)) → with_texts lists_with_line nothing (xs ++ ys ++ zs) ≡ with_texts lists_with_line nothing (xs ++ (ys ++ zs))
+append_first xs ys zs = ap (with_texts lists_with_line nothing) (append_assoc xs ys zs)
 
 -- all lines are read
-texts_read : (s : Stream) → IsStream s → with_texts stream_with nothing (texts_of s) ≡ Ok s
+texts_read : (s : Stream) → IsStream s → with_texts lists_with_line nothing (texts_of s) ≡ Ok s
 texts_read s is =
     let shorts = shorts_read [] s.shorts is.are_values (omega (arith, is.most_shorts)) in
     let longs = longs_read s.shorts [] s.longs is.are_messages (omega (arith, is.most_longs)) in
     let coins = coins_read s.shorts s.longs [] s.coins is.are_fields (omega (arith, is.most_coins)) in
     append_first (map short_words s.shorts) (map long_words s.longs) (map coin_words s.coins)
-    ∙ with_texts-append stream_with nothing (record { shorts = s.shorts; longs = []; coins = [] }) (map short_words s.shorts) (map long_words s.longs ++ map coin_words s.coins) shorts
-    ∙ with_texts-append stream_with (record { shorts = s.shorts; longs = []; coins = [] }) (record { shorts = s.shorts; longs = s.longs; coins = [] }) (map long_words s.longs) (map coin_words s.coins) longs
+    ∙ with_texts-append lists_with_line nothing (record { shorts = s.shorts; longs = []; coins = [] }) (map short_words s.shorts) (map long_words s.longs ++ map coin_words s.coins) shorts
+    ∙ with_texts-append lists_with_line (record { shorts = s.shorts; longs = []; coins = [] }) (record { shorts = s.shorts; longs = s.longs; coins = [] }) (map long_words s.longs) (map coin_words s.coins) longs
     ∙ coins
 
 -- the text of a stream is read as the stream
-pub stream_again : (s : Stream) → IsStream s → stream_of (stream_text s) ≡ Ok s
+pub stream_again : (s : Stream) → IsStream s → stream_by_lists (stream_text s) ≡ Ok s
 stream_again s is =
-    ap stream_of (sym (texts_spell s)) ∙ file_is_read at_line NotText stream_with 1 nothing s (texts_of s) (texts_are s is) (texts_read s is)
+    ap stream_by_lists (sym (texts_spell s)) ∙ file_is_read stream_fault NotText lists_with_line 1 nothing s (texts_of s) (texts_are s is) (texts_read s is)

@@ -1,6 +1,7 @@
-//! Why bytes are no stream file.
+//! Why bytes are not a stream file.
 
-/// The first fault of a stream file: its line and what is wrong there.
+/// The first fault of a stream file, the format of which is this project's own: its line and what
+/// is wrong there.
 #[derive(Clone, Copy, Debug, PartialEq, Eq)]
 pub struct StreamFault {
     /// The line, from 1; at most the greatest number of its type.
@@ -15,14 +16,14 @@ pub enum StreamKind {
     NotText,
     /// It does not begin with `short `, `long ` or `coin `.
     Word,
-    /// It stands after a line of a later kind.
+    /// It comes after a line of a later kind.
     Order,
     /// It is the 4097th short, the 257th long or the 4097th coin.
     TooMany,
-    /// After `coin ` stands no number from 0 to 15.
+    /// The text after `coin ` is not a number from 0 to 15.
     Number,
-    /// After `short ` or `long ` stands a character that is no lower-case hexadecimal digit, or an
-    /// odd number of digits.
+    /// The text after `short ` or `long ` has a character that is not a lower-case hexadecimal
+    /// digit, or an odd number of digits.
     Hex,
     /// A short is not 15 bytes long, or a long is longer than 3838.
     Length {

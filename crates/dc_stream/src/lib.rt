@@ -10,8 +10,3 @@ pub use fault::{StreamFault, StreamKind};
 pub use reading::read_stream;
 pub use stream::{Longs, Shorts, Stream};
 pub use writing::stream_text;
-
-#[cfg(test)]
-mod reading_tests;
-#[cfg(test)]
-mod tests;

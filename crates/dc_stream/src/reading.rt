@@ -4,72 +4,83 @@ ghost use Rattle.std.specs.Prelude.{◌≡◌, IfOk, IsSome, Ok, Some, length};
 ghost use Rattle.dc_spec.specs.Entries.{Stream as stream_record};
 ghost use Rattle.dc_formats.specs.StreamFile.{IsStream, stream_text};
 ghost use Rattle.dc_field.specs.Answers.{Answers};
-ghost use Rattle.dc_text.specs.Lines.{told_line as line_told};
 ghost use Rattle.dc_text.specs.Payload.{payload_in};
-ghost use Rattle.dc_stream.specs.Reading.{stream_of, stream_with, told_length, with_coin as coin_added, with_long as long_added, with_short as short_added};
+ghost use Rattle.dc_stream.specs.Items.{reported_length};
+ghost use Rattle.dc_stream.specs.Reading.{stream_fault, stream_from_bytes};
+ghost use Rattle.dc_stream.specs.ReadingByLists.{lists_with_coin, lists_with_line, lists_with_long, lists_with_short, stream_by_lists};
 
 use crate::fault::{StreamFault, StreamKind};
 use crate::stream::Stream;
 use dc_field::{Refusal, Value, read_decimal};
-use dc_text::{Digits, decode_payload, first_line, payload_bytes, payload_length, told_line};
+use dc_text::{Digits, Lines, decode_payload, payload_bytes, payload_length};
 use std::alloc::Global;
 
-/// The stream that bytes spell. No line is copied but its payload.
+/// How many shorts a stream has at most.
+const MOST_SHORTS: usize = 4096;
+
+/// How many longs a stream has at most.
+const MOST_LONGS: usize = 256;
+
+/// How many coins a stream has at most.
+const MOST_COINS: usize = 4096;
+
+/// How many bytes a long has at most.
+const MOST_MESSAGE: usize = 3838;
+
+/// The stream that the bytes of a stream file spell, or the first fault.
+///
+/// A stream file is this project's own format. Bytes that do not spell a stream are refused with
+/// the first faulty line, from 1, and what is wrong there. Only payload is copied.
 pub fn read_stream(alloc: Global, b: &[u8]) -> Result<Stream, Refusal<StreamFault>>
-    // What is read, or the first fault: of the first line that has one, by the order of the tests.
-    ensures exact { Answers result (stream_of b.now) }
-    // What is read is spelled so.
+    // The stream, or the fault of the first line that has one, by the order of the tests.
+    ensures exact { Answers result (stream_from_bytes b.now) }
+    // The stream that is read keeps the limits, and the bytes are its text.
     ensures found { IfOk result (λ s. IsStream s × (b.now ≡ stream_text s)) }
-    // What is spelled so is read.
-    ensures only { (s : stream_record) → IsStream s → b.now ≡ stream_text s → Answers result (Ok s) }
+    // The text of each stream is read as that stream.
+    ensures only { (s : stream_record) → IsStream s → b.now ≡ stream_text s →
+        Answers result (Ok s) }
 {
     read_lines(alloc, b)
 }
 
-/// Reads line after line.
+/// Reads one line after another.
 fn read_lines(alloc: Global, b: &[u8]) -> Result<Stream, Refusal<StreamFault>>
-    ensures { Answers result (stream_of b.now) }
+    ensures { Answers result (stream_by_lists b.now) }
 {
     let digits = Digits::new();
     let mut stream = Stream::empty(alloc);
-    let mut rest = b;
-    let mut before = 0u64;
-    while !rest.is_empty() {
-        let number = before + 1;
-        let text = match first_line(rest) {
+    let mut lines = Lines::new(b);
+    while !lines.at_end() {
+        let number = lines.number();
+        let text = match lines.next() {
             Some(text) => text,
-            None => return Err(at_line(number, StreamKind::NotText)),
+            None => return Err(refusal(number, StreamKind::NotText)),
         };
         stream = match with_text(alloc, &digits, stream, text) {
             Ok(stream) => stream,
-            Err(Refusal::Bad(kind)) => return Err(at_line(number, kind)),
+            Err(Refusal::Bad(kind)) => return Err(refusal(number, kind)),
             Err(Refusal::NoMemory) => return Err(Refusal::NoMemory),
         };
-        rest = &rest[text.len() + 1..];
-        before = number;
     }
     Ok(stream)
 }
 
-/// A fault of the line with this number.
-fn at_line(number: u64, kind: StreamKind) -> Refusal<StreamFault>
-    ensures { result ≡ Refusal.Bad (record { line = line_told number; kind = kind }) }
+/// The refusal of a line.
+fn refusal(line: u32, kind: StreamKind) -> Refusal<StreamFault>
+    ensures { result ≡ Refusal.Bad (stream_fault line kind) }
 {
-    Refusal::Bad(StreamFault {
-        line: told_line(number),
-        kind,
-    })
+    Refusal::Bad(StreamFault { line, kind })
 }
 
 /// The stream with one more line.
-#[tactic(auto, unfolding(crate::specs::Reading::stream_with))]
+#[tactic(auto, unfolding(crate::specs::ReadingByLists::lists_with_line))]
 fn with_text(
     alloc: Global,
     digits: &Digits,
     stream: Stream,
     text: &[u8],
 ) -> Result<Stream, Refusal<StreamKind>>
-    ensures { Answers result (stream_with stream text.now) }
+    ensures { Answers result (lists_with_line stream text.now) }
 {
     if text.starts_with(b"short ") {
         return with_short(digits, stream, &text[6..]);
@@ -84,14 +95,14 @@ fn with_text(
 }
 
 /// The stream with the short of this text.
-#[tactic(auto, unfolding(crate::specs::Reading::with_short))]
+#[tactic(auto, unfolding(crate::specs::ReadingByLists::lists_with_short))]
 fn with_short(digits: &Digits, stream: Stream, text: &[u8]) -> Result<Stream, Refusal<StreamKind>>
-    ensures { Answers result (short_added stream text.now) }
+    ensures { Answers result (lists_with_short stream text.now) }
 {
     if !(stream.longs.as_slice().is_empty() && stream.coins.as_slice().is_empty()) {
         return Err(Refusal::Bad(StreamKind::Order));
     }
-    if 4096 <= stream.shorts.as_slice().len() {
+    if MOST_SHORTS <= stream.shorts.as_slice().len() {
         return Err(Refusal::Bad(StreamKind::TooMany));
     }
     match payload_length(text) {
@@ -113,34 +124,36 @@ fn value_of(digits: &Digits, payload: &[u8]) -> Value
 }
 
 /// The stream with the long of this payload.
-#[tactic(auto, unfolding(crate::specs::Reading::with_long))]
+#[tactic(auto, unfolding(crate::specs::ReadingByLists::lists_with_long))]
 fn with_long(
     alloc: Global,
     digits: &Digits,
     stream: Stream,
     payload: &[u8],
 ) -> Result<Stream, Refusal<StreamKind>>
-    ensures { Answers result (long_added stream payload.now) }
+    ensures { Answers result (lists_with_long stream payload.now) }
 {
     if !stream.coins.as_slice().is_empty() {
         return Err(Refusal::Bad(StreamKind::Order));
     }
-    if 256 <= stream.longs.as_slice().len() {
+    if MOST_LONGS <= stream.longs.as_slice().len() {
         return Err(Refusal::Bad(StreamKind::TooMany));
     }
     match payload_length(payload) {
         None => Err(Refusal::Bad(StreamKind::Hex)),
-        Some(seen) if seen <= 3838 => Ok(stream.with_long(payload_bytes(alloc, digits, payload)?)?),
+        Some(seen) if seen <= MOST_MESSAGE => Ok(stream.with_long(payload_bytes(
+            alloc, digits, payload,
+        )?)?),
         Some(seen) => Err(too_long(seen)),
     }
 }
 
-/// The stream with the coin that this number tells.
-#[tactic(auto, unfolding(crate::specs::Reading::with_coin))]
+/// The stream with the coin of this number.
+#[tactic(auto, unfolding(crate::specs::ReadingByLists::lists_with_coin))]
 fn with_coin(stream: Stream, number: &[u8]) -> Result<Stream, Refusal<StreamKind>>
-    ensures { Answers result (coin_added stream number.now) }
+    ensures { Answers result (lists_with_coin stream number.now) }
 {
-    if 4096 <= stream.coins.as_slice().len() {
+    if MOST_COINS <= stream.coins.as_slice().len() {
         return Err(Refusal::Bad(StreamKind::TooMany));
     }
     match read_decimal(number) {
@@ -151,12 +164,12 @@ fn with_coin(stream: Stream, number: &[u8]) -> Result<Stream, Refusal<StreamKind
 
 /// The refusal of so many bytes.
 fn too_long(seen: usize) -> Refusal<StreamKind>
-    ensures { result ≡ Refusal.Bad (StreamKind.Length (told_length seen)) }
+    ensures { result ≡ Refusal.Bad (StreamKind.Length (reported_length seen)) }
 {
-    let told = if seen < 4294967295 {
+    let reported = if seen < 4294967295 {
         seen as u32
     } else {
         4294967295
     };
-    Refusal::Bad(StreamKind::Length { seen: told })
+    Refusal::Bad(StreamKind::Length { seen: reported })
 }

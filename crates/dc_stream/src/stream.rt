@@ -1,6 +1,8 @@
-//! What a station has to say.
+//! What a station sends.
 
 ghost use Rattle.std.specs.Prelude.{◌≡◌, ◌<◌, ◌≤◌, [], ◌∷◌, ◌++◌, IfOk, length};
+ghost use Rattle.dc_spec.specs.Limits.{most_coins, most_longs, most_message, most_shorts};
+ghost use Rattle.dc_spec.specs.Values.{IsValue};
 ghost use Rattle.dc_formats.specs.StreamFile.{IsStream};
 ghost use Rattle.dc_formats.specs.TextFile.{AreBytes};
 
@@ -8,10 +10,10 @@ use dc_field::{Bytes, Items, NoMemory, Value};
 use std::alloc::Global;
 use std::marker::Model;
 
-/// Values.
+/// Values of fifteen bytes.
 pub type Shorts = Items<Value>;
 
-/// Messages.
+/// Messages, each of any number of bytes.
 pub type Longs = Items<Bytes>;
 
 /// The stream of a station.
@@ -37,7 +39,7 @@ impl Model for Stream {
 }
 
 impl Stream {
-    /// A stream with nothing to say. Takes no memory.
+    /// A stream with no entry.
     pub fn empty(alloc: Global) -> Stream
         ensures { result ≡ record { shorts = []; longs = []; coins = [] } }
     {
@@ -48,12 +50,12 @@ impl Stream {
         }
     }
 
-    /// The stream with one more short. After want of memory it is gone.
+    /// The stream with one more short. Out of memory, the stream is dropped.
     pub fn with_short(self, value: Value) -> Result<Stream, NoMemory>
-        requires { length self.shorts < 4096 }
+        requires { length self.shorts < most_shorts }
         ensures { IfOk result (λ s. s ≡ record self { shorts = self.shorts ++ value ∷ [] }) }
     {
-        let _ = value.number();
+        note_value(&value);
         let Stream {
             shorts,
             longs,
@@ -68,13 +70,13 @@ impl Stream {
         })
     }
 
-    /// The stream with one more long. After want of memory it is gone.
+    /// The stream with one more long, of at most 3838 bytes. Out of memory, the stream is dropped.
     pub fn with_long(self, message: Bytes) -> Result<Stream, NoMemory>
-        requires room { length self.longs < 256 }
-        requires message { length message ≤ 3838 }
+        requires room { length self.longs < most_longs }
+        requires message { length message ≤ most_message }
         ensures { IfOk result (λ s. s ≡ record self { longs = self.longs ++ message ∷ [] }) }
     {
-        hold_bytes(message.as_slice());
+        note_bytes(message.as_slice());
         let Stream {
             shorts,
             longs,
@@ -89,9 +91,9 @@ impl Stream {
         })
     }
 
-    /// The stream with one more coin. After want of memory it is gone.
+    /// The stream with one more coin, from 0 to 15. Out of memory, the stream is dropped.
     pub fn with_coin(self, field: u8) -> Result<Stream, NoMemory>
-        requires room { length self.coins < 4096 }
+        requires room { length self.coins < most_coins }
         requires field { field < 16 }
         ensures { IfOk result (λ s. s ≡ record self { coins = self.coins ++ field ∷ [] }) }
     {
@@ -109,6 +111,7 @@ impl Stream {
         })
     }
 
+    /// A copy of the stream.
     pub fn copy(&self, alloc: Global) -> Result<Stream, NoMemory>
         ensures { IfOk result (λ s. s ≡ self.now) }
     {
@@ -123,9 +126,16 @@ impl Stream {
     }
 }
 
-/// The items of a slice of bytes are bytes.
-fn hold_bytes(bytes: &[u8])
+/// Gives the prover a fact and does nothing: the items of a slice of bytes are bytes.
+fn note_bytes(bytes: &[u8])
     ensures { AreBytes bytes.now }
 {
     let _ = bytes;
+}
+
+/// Gives the prover a fact and does nothing: a value has fifteen bytes.
+fn note_value(value: &Value)
+    ensures { IsValue value.now }
+{
+    let _ = value.number();
 }

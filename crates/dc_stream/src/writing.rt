@@ -56,7 +56,8 @@ fn put_payload(
     beginning: &[u8],
     payload: &[u8],
 ) -> Result<(), NoMemory>
-    ensures { IfOk result (λ _. text.new.items ≡ text.old.items ++ line (beginning.now ++ hex_text payload.now)) }
+    ensures { IfOk result (λ _. text.new.items ≡ text.old.items ++ line (beginning.now ++
+        hex_text payload.now)) }
 {
     let digits = hex::encode(alloc, payload)?;
     put_line(text, beginning, digits.as_bytes())
@@ -72,7 +73,8 @@ fn put_coin(text: &mut Vec<u8>, coin: u8) -> Result<(), NoMemory>
 
 /// Puts a line that begins so and goes on so.
 fn put_line(text: &mut Vec<u8>, beginning: &[u8], rest: &[u8]) -> Result<(), NoMemory>
-    ensures { IfOk result (λ _. text.new.items ≡ text.old.items ++ line (beginning.now ++ rest.now)) }
+    ensures { IfOk result (λ _. text.new.items ≡ text.old.items ++ line (beginning.now ++
+        rest.now)) }
 {
     text.extend_from_slice(beginning)?;
     text.extend_from_slice(rest)?;

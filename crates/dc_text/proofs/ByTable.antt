@@ -34,7 +34,8 @@ shifted : (high low : ℕ) (rest : List ℕ) (m n : ℕ) → m ≡ suc (suc n) �
 shifted high low rest m n e = ap (λ (k : ℕ). get_or (high ∷ low ∷ rest) k 0) e
 
 -- equal characters are one byte
-same_pair : (xs ys : List ℕ) (a b c d : ℕ) → get_or xs a 0 ≡ get_or ys c 0 → get_or xs b 0 ≡ get_or ys d 0 → 16 * count_of (get_or xs a 0) + count_of (get_or xs b 0) ≡ 16 * count_of (get_or ys c 0) + count_of (get_or ys d 0)
+same_pair : (xs ys : List ℕ) (a b c d : ℕ) → get_or xs a 0 ≡ get_or ys c 0 → get_or xs b 0 ≡ get_or ys d 0
+    → 16 * count_of (get_or xs a 0) + count_of (get_or xs b 0) ≡ 16 * count_of (get_or ys c 0) + count_of (get_or ys d 0)
 same_pair xs ys a b c d e f = ap (λ (x : ℕ). 16 * count_of x + count_of (get_or xs b 0)) e ∙ ap (λ (x : ℕ). 16 * count_of (get_or ys c 0) + count_of x) f
 
 -- each byte of payload is that of its two digits
@@ -53,7 +54,8 @@ byte_there (high ∷ low ∷ rest) bytes (suc i) e lt =
     ∙ same_pair rest (high ∷ low ∷ rest) (2 * i) (2 * i + 1) (2 * suc i) (2 * suc i + 1) (sym even) (sym odd)
 
 -- bytes that are those of their digits are the payload
-pub all_there : (text now : List ℕ) → is_some (payload_in text) ≡ true → length text ≡ 2 * length now → ((k : ℕ) → k < length now → get_or now k 0 ≡ 16 * count_of (get_or text (2 * k) 0) + count_of (get_or text (2 * k + 1) 0)) → payload_in text ≡ Some now
+pub all_there : (text now : List ℕ) → is_some (payload_in text) ≡ true → length text ≡ 2 * length now
+    → ((k : ℕ) → k < length now → get_or now k 0 ≡ 16 * count_of (get_or text (2 * k) 0) + count_of (get_or text (2 * k + 1) 0)) → payload_in text ≡ Some now
 all_there text now is long each =
     let read = some_there (payload_in text) is in
     let size = length-payload_in text read.0 read.1 in

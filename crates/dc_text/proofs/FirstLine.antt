@@ -10,7 +10,7 @@ use Rattle.std.proofs.lemmas.List.Quantifiers.{position-Some}
 use Rattle.dc_spec.specs.Text.{line}
 use Rattle.dc_formats.specs.TextFile.{IsPrintable, IsTextLine, Line, ended, cut_off, begun_with, file_lines}
 use Rattle.dc_formats.proofs.FileLines.{no_end, line_first}
-use Rattle.dc_field.proofs.Positions.{fails_where_none}
+use Rattle.dc_text.proofs.Positions.{fails_where_none}
 use Rattle.dc_text.specs.Lines.{is_printable, text_in, IsFirstLine, BeginsWithoutText}
 
 -- what the test of a character says
@@ -29,35 +29,36 @@ begun_line c bytes (ended t) others other e none = record {
   first = ended (c ∷ t);
   others = others;
   lines = no_end c bytes other ∙ ap (begun_with c) e;
-  no_text = longer (is_printable c) (list_all is_printable t) t (c ∷ t) none;
+  not_text = longer (is_printable c) (list_all is_printable t) t (c ∷ t) none;
 }
 begun_line c bytes (cut_off t) others other e none = record {
   first = cut_off (c ∷ t);
   others = others;
   lines = no_end c bytes other ∙ ap (begun_with c) e;
-  no_text = refl;
+  not_text = refl;
 }
 
 begun : (c : ℕ) (bytes : List ℕ) → c ≢ 10 → BeginsWithoutText bytes → BeginsWithoutText (c ∷ bytes)
-begun c bytes other r = begun_line c bytes r.first r.others other r.lines r.no_text
+begun c bytes other r = begun_line c bytes r.first r.others other r.lines r.not_text
 
 -- a byte that no line holds stands in front of other lines
 bad_before : (c : ℕ) (bytes : List ℕ) (lines : List Line) → is_printable c ≡ false → c ≢ 10 → file_lines bytes ≡ lines → BeginsWithoutText (c ∷ bytes)
-bad_before c bytes [] bad other e = record { first = cut_off (c ∷ []); others = []; lines = no_end c bytes other ∙ ap (begun_with c) e; no_text = refl }
+bad_before c bytes [] bad other e = record { first = cut_off (c ∷ []); others = []; lines = no_end c bytes other ∙ ap (begun_with c) e; not_text = refl }
 bad_before c bytes (ended t ∷ lines) bad other e = record {
   first = ended (c ∷ t);
   others = lines;
   lines = no_end c bytes other ∙ ap (begun_with c) e;
-  no_text = rw bad refl;
+  not_text = rw bad refl;
 }
-bad_before c bytes (cut_off t ∷ lines) bad other e = record { first = cut_off (c ∷ t); others = lines; lines = no_end c bytes other ∙ ap (begun_with c) e; no_text = refl }
+bad_before c bytes (cut_off t ∷ lines) bad other e = record { first = cut_off (c ∷ t); others = lines; lines = no_end c bytes other ∙ ap (begun_with c) e; not_text = refl }
 
 -- a printable character is no line's end
 goes_on : (c : ℕ) → is_printable c ≡ true → c ≢ 10
 goes_on c p same = let is : IsPrintable c = printable c p in omega arith
 
 -- after printable characters stands a byte that no line holds
-pub no_text_at : (bytes : List ℕ) (end : ℕ) → end < length bytes → ((k : ℕ) → k < end → is_printable (get_or bytes k 0) ≡ true) → is_printable (get_or bytes end 0) ≡ false → get_or bytes end 0 ≢ 10 → BeginsWithoutText bytes
+pub no_text_at : (bytes : List ℕ) (end : ℕ) → end < length bytes → ((k : ℕ) → k < end → is_printable (get_or bytes k 0) ≡ true) → is_printable (get_or bytes end 0) ≡ false
+    → get_or bytes end 0 ≢ 10 → BeginsWithoutText bytes
 no_text_at [] end lt before bad other = absurd (omega arith)
 no_text_at (c ∷ bytes) zero lt before bad other = bad_before c bytes (file_lines bytes) bad other refl
 no_text_at (c ∷ bytes) (suc end) lt before bad other =
@@ -66,7 +67,7 @@ no_text_at (c ∷ bytes) (suc end) lt before bad other =
 -- printable characters alone
 pub no_end_there : (bytes : List ℕ) → 0 < length bytes → ((k : ℕ) → k < length bytes → is_printable (get_or bytes k 0) ≡ true) → BeginsWithoutText bytes
 no_end_there [] some each = absurd (omega arith)
-no_end_there (c ∷ []) some each = record { first = cut_off (c ∷ []); others = []; lines = no_end c [] (goes_on c (each 0 (omega arith))); no_text = refl }
+no_end_there (c ∷ []) some each = record { first = cut_off (c ∷ []); others = []; lines = no_end c [] (goes_on c (each 0 (omega arith))); not_text = refl }
 no_end_there (c ∷ d ∷ bytes) some each = begun c (d ∷ bytes) (goes_on c (each 0 (omega arith))) (no_end_there (d ∷ bytes) (omega arith) (λ k less. each (suc k) (omega arith)))
 
 -- printable characters and a line's end are a line
@@ -83,7 +84,7 @@ line_at bytes end at ends =
     record {
       is_text = all;
       fits = omega (arith, found.0);
-      stands_first = rw long lines;
+      is_first = rw long lines;
     }
 
 -- any other byte that no line holds

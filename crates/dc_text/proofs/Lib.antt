@@ -1,4 +1,7 @@
 mod FirstLine
+mod NextLine
 pub mod LineByLine
 pub mod PayloadDigits
-pub mod ByTable
+mod ByTable
+mod Positions
+mod HexDigits

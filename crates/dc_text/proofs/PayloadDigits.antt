@@ -13,7 +13,7 @@ use Rattle.hex.proofs.HexLemmas.{decode_of-encode_lower}
 use Rattle.dc_spec.specs.Text.{hex_digit}
 use Rattle.dc_formats.specs.TextFile.{AreBytes, hex_text}
 use Rattle.dc_field.specs.WordInText.{digit_in}
-use Rattle.dc_field.proofs.HexDigits.{digit_in-hex_digit, hex_digit-digit_in}
+use Rattle.dc_text.proofs.HexDigits.{digit_in-hex_digit, hex_digit-digit_in}
 use Rattle.dc_text.specs.Payload.{byte_before, payload_in}
 
 -- ---- the bytes and their digits
@@ -158,7 +158,8 @@ sized text bytes n e long =
     rw (even, half) (rw even at pairs)
 
 -- so the room holds it
-pub put_is : (text was now : List ℕ) (r : Result (Unit {0}) FromHexError) → is_some (payload_in text) ≡ true → length text ≡ 2 * length was → MatchResult (decode_sized text (length was)) (λ bytes. (r ≡ Ok tt) × (now ≡ bytes)) (λ e. r ≡ Err e) → payload_in text ≡ Some now
+pub put_is : (text was now : List ℕ) (r : Result (Unit {0}) FromHexError) → is_some (payload_in text) ≡ true → length text ≡ 2 * length was
+    → MatchResult (decode_sized text (length was)) (λ bytes. (r ≡ Ok tt) × (now ≡ bytes)) (λ e. r ≡ Err e) → payload_in text ≡ Some now
 put_is text was now r is long given =
     let read = some_there (payload_in text) is in
     let done = rw (sized text read.0 (length was) read.1 long) at given in

@@ -4,8 +4,5 @@
 mod lines;
 mod payload;
 
-pub use lines::{first_line, told_line};
+pub use lines::Lines;
 pub use payload::{Digits, decode_payload, payload_bytes, payload_length};
-
-#[cfg(test)]
-mod tests;

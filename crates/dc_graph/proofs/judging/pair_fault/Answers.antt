@@ -1,11 +1,11 @@
 use Rattle.std.proofs.Common.{◌≡◌, ◌+◌, ◌*◌, arith, sym, refl, length, ◌∙◌, below_more}
 use Rattle.dc_graph.specs.Faults.{is_faulty_pair, pair_at, joins}
-use Rattle.dc_graph.proofs.FirstFault.{no_place, IsTable-more, ends_told, before_told, ends_of_joins, not_faulty_by_both}
+use Rattle.dc_graph.proofs.FirstFault.{no_place, IsTable-more, ends_reported, before_reported, ends_of_joins, not_faulty_by_both}
 use Rattle.dc_graph.proofs.judging.pair_fault.Goals as goal
 
 pub returns-then-not-is_edge : goal.returns-then-not-is_edge
 returns-then-not-is_edge c =
-    rw c.told.ensures (sym (ends_told c.args.n c.args.edges.now c.loop-i.i c.loop-i-test.true c.loop-i.invariant.clear (sym c.is_edge.ensures ∙ c.if-not-is_edge.true)))
+    rw c.reported.ensures (sym (ends_reported c.args.n c.args.edges.now c.loop-i.i c.loop-i-test.true c.loop-i.invariant.clear (sym c.is_edge.ensures ∙ c.if-not-is_edge.true)))
 
 pub returns-then-seen-at : goal.returns-then-seen-at
 returns-then-seen-at c =
@@ -14,7 +14,7 @@ returns-then-seen-at c =
     let ends = ends_of_joins c.args.n (pair_at c.args.edges.now c.loop-i.i).0 (pair_at c.args.edges.now c.loop-i.i).1 joined in
     let place : c.from.result * c.from-in-loop-i.result + c.from-in-loop-i-2.result ≡ (pair_at c.args.edges.now c.loop-i.i).0 * c.args.n + (pair_at c.args.edges.now c.loop-i.i).1 = rw (c.from.ensures, c.from-in-loop-i.ensures, c.from-in-loop-i-2.ensures) refl in
     let flag = c.loop-i.invariant.table.flags (pair_at c.args.edges.now c.loop-i.i).0 (pair_at c.args.edges.now c.loop-i.i).1 (omega arith) ends.1 in
-    rw c.told-then-seen-at.ensures (sym (before_told c.args.n c.args.edges.now c.loop-i.i c.loop-i-test.true c.loop-i.invariant.clear joined (sym flag ∙ (rw place at c.if-seen-at.true))))
+    rw c.reported-then-seen-at.ensures (sym (before_reported c.args.n c.args.edges.now c.loop-i.i c.loop-i-test.true c.loop-i.invariant.clear joined (sym flag ∙ (rw place at c.if-seen-at.true))))
 
 pub loop-i-preserved : goal.loop-i-preserved
 loop-i-preserved c =

@@ -11,4 +11,4 @@ loop-station-preserved c = grind (arith, common_steps, zero_words_more {Y = ℕ 
 pub returns : goal.returns
 returns c =
     let all : c.loop-station.station ≡ c.args.n = omega arith in
-    c.loop-station.invariant ∙ rw all (ap (map {B = ℕ × List ℕ} (λ i. (i, zero_word))) (members_kept c.args.c.now c.args.n c.hold_members.ensures.rising c.requires))
+    c.loop-station.invariant ∙ rw all (ap (map {B = ℕ × List ℕ} (λ i. (i, zero_word))) (members_kept c.args.c.now c.args.n c.note_members.ensures.rising c.requires))

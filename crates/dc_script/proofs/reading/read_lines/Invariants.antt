@@ -1,10 +1,10 @@
 use Rattle.std.proofs.Common.{length}
-use Rattle.dc_script.proofs.LinesLeft.{LinesLeft}
+use Rattle.dc_script.proofs.ReadSoFar.{ReadSoFar}
 use Rattle.dc_script.proofs.reading.read_lines.Given as goal
 
--- the lines so far make the rounds, and the rest is left
-abbrev pub invariant-loop-rest : goal.invariant-loop-rest
-invariant-loop-rest l = LinesLeft l.bytes l.rest l.rounds l.line
+-- the lines so far make the rounds, and the others are left
+abbrev pub invariant-loop-alloc : goal.invariant-loop-alloc
+invariant-loop-alloc l = ReadSoFar l.fn.after_head.bytes l.lines l.rounds
 
-abbrev pub decreases-loop-rest : goal.decreases-loop-rest
-decreases-loop-rest l = length l.rest
+abbrev pub decreases-loop-alloc : goal.decreases-loop-alloc
+decreases-loop-alloc l = length l.lines.bytes

@@ -6,4 +6,5 @@ in_order : (text beginning rest end : List ℕ) → ((text ++ beginning) ++ rest
 in_order text beginning rest end = simp append_assoc
 
 pub returns : goal.returns
-returns c = c.in_ok-push.ensures.items ∙ (rw (c.in_ok-extend_from_slice-2.ensures.items, c.in_ok-extend_from_slice.ensures.items) (in_order c.args.text.now.items c.args.beginning.now c.args.rest.now (10 ∷ [])))
+returns c =
+    c.in_ok-push.ensures.items ∙ (rw (c.in_ok-extend_from_slice-2.ensures.items, c.in_ok-extend_from_slice.ensures.items) (in_order c.args.text.now.items c.args.beginning.now c.args.rest.now (10 ∷ [])))

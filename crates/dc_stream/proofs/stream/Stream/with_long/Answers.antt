@@ -18,7 +18,7 @@ invariant_of-result c =
       most_shorts = is.most_shorts;
       are_values = is.are_values;
       most_longs = rw longs (omega (arith, length-append c.self.inside.longs (c.args.message ∷ []), same));
-      are_messages = rw longs (one_more c.self.inside.longs c.args.message is.are_messages c.requires.message (subst AreBytes c.as_slice.ensures c.hold_bytes.ensures));
+      are_messages = rw longs (one_more c.self.inside.longs c.args.message is.are_messages c.requires.message (subst AreBytes c.as_slice.ensures c.note_bytes.ensures));
       most_coins = is.most_coins;
       are_fields = is.are_fields;
     }
