@@ -1,0 +1,91 @@
+"""Manifests: what is read of a TOML document, or its first fault."""
+
+from .kind import Kind, byte_list, listing, numbers, option, pair, record
+
+# how a fault's text is written as a term: the constructor, and its fields in order
+FAULTS = {
+    "toml": ("Toml", []),
+    "unknown": ("Unknown", ["name"]),
+    "field": ("Field", ["name"]),
+    "kind": ("Kind", ["name"]),
+    "range": ("Range", ["name", "seen"]),
+    "member": ("Member", ["place"]),
+    "too-large": ("TooLarge", ["symbols"]),
+}
+GRAPH_FAULTS = {"stations": ("Stations", "seen"), "ends": ("Ends", "place"), "repeated": ("Repeated", "place")}
+
+
+def text(item):
+    """A text as the list of its bytes."""
+    return numbers(item.encode())
+
+
+def integer(digits):
+    """A whole number."""
+    value = int(digits)
+    return f"(pos {value})" if 0 <= value else f"(negsuc {-value - 1})"
+
+
+def field(told, name):
+    """The value of a field, which stands at the front of a fault's text, and the rest of the text."""
+    if not told.startswith(f"{name}="):
+        raise ValueError(told)
+    value = told[len(name) + 1 :]
+    return value.rsplit(" seen=", 1) if name == "name" and " seen=" in value else (value, "")
+
+
+def graph_fault(told):
+    """A fault of the key graph."""
+    kind, value = told.split(" ")
+    variant, name = GRAPH_FAULTS[kind]
+    return f"(Graph ({variant} {field(value, name)[0]}))"
+
+
+def fault(told):
+    """A fault by its text."""
+    kind, _, rest = told.partition(" ")
+    if kind == "graph":
+        return graph_fault(rest)
+    variant, names = FAULTS[kind]
+    if names == ["name"]:
+        return f"({variant} {text(field(rest, 'name')[0])})"
+    if names == ["name", "seen"]:
+        name, seen = field(rest, "name")
+        return f"({variant} {text(name)} {integer(seen)})"
+    return f"({variant} {' '.join(str(int(field(rest, name)[0])) for name in names)})" if names else variant
+
+
+def content(case):
+    """The content of a manifest."""
+    edges = listing([pair(str(u), str(v)) for u, v in case["edges"]])
+    return record(
+        graph=record(stations=case["stations"], edges=edges),
+        coalition=numbers(case["coalition"]),
+        words=case["words"],
+        keys=text(case["keys"]),
+        streams=listing([text(name) for name in case["streams"]]),
+        script=option(None if case["script"] is None else text(case["script"])),
+    )
+
+
+def manifests(case):
+    """The claim that a document is read as its content, or refused by its fault."""
+    due = f"Ok {content(case)}" if case["fault"] is None else f"Err {fault(case['fault'])}"
+    return [f"manifest_of {byte_list(case['bytes'])} ≡ {due}"]
+
+
+KINDS = {
+    "manifests": Kind(
+        file="manifests",
+        uses="""
+use Rattle.std.specs.Prelude.{◌≡◌, refl, List, [], ◌∷◌, Some, None, Ok, Err, pos, negsuc}
+use Rattle.dc_graph.specs.declared.fault.GraphFault.TheVariants.{Stations, Ends, Repeated}
+use Rattle.dc_manifest.specs.declared.fault.ManifestFault.TheVariants.{Toml, Unknown, Field, Kind, Range, Graph, Member, TooLarge}
+use Rattle.dc_manifest.specs.Reading.{manifest_of}
+use Rattle.dc_manifest.proofs.Computing.{manifest_on_literals}
+""",
+        unfolding="manifest_on_literals",
+        claims=manifests,
+        stands_on=("dc_manifest",),
+    )
+}
