@@ -1,9 +1,9 @@
 -- The seven fields of a manifest: the kind of each, and which of them are required.
-use Rattle.std.specs.Prelude.{ℕ, ℤ, Bool, List, [], ◌∷◌, Option, Some, None, option_and_then, option_map, Result, Ok, Err, bytes_eq, is_none, if◌then◌else◌, codes}
+use Rattle.std.specs.Prelude.{ℕ, ℤ, Bool, List, [], ◌∷◌, Option, Some, None, option_and_then, option_map, unwrap_or, Result, Ok, Err, bytes_eq, is_none, if◌then◌else◌, codes}
 use Rattle.std.specs.List.{list_any, find}
 use Rattle.toml.specs.Data.{Data, Items, no_items, item, Members, no_members, member, get_member, as_integer, as_str, as_array}
 use Rattle.dc_manifest.specs.declared.fault.ManifestFault.{ManifestFault}
-use Rattle.dc_manifest.specs.declared.fault.ManifestFault.TheVariants.{Unknown, Field, Kind}
+use Rattle.dc_manifest.specs.declared.fault.ManifestFault.TheVariants.{Kind}
 
 -- the next test, where those before it passed
 infixr 10 ◌>>=◌
@@ -45,12 +45,16 @@ abbrev pub first_unknown : Members → Option (List ℕ)
 first_unknown no_members = None
 first_unknown (member name d ms) = if is_named known name then first_unknown ms else Some name
 
--- the first required field that a table has not
+-- whether a table has no field of this name
+abbrev pub is_absent : Members → List ℕ → Bool
+is_absent ms name = is_none (get_member name ms)
+
+-- the first required field that a table does not have
 abbrev pub first_absent : Members → Option (List ℕ)
-first_absent ms = find (λ name. is_none (get_member name ms)) required
+first_absent ms = find (is_absent ms) required
 
 -- the values of all fields
-pub record Values : Type 0 where
+pub record FieldValues : Type 0 where
   pub coalition : List ℤ
   pub edges : List (ℤ × ℤ)
   pub keys : List ℕ
@@ -64,26 +68,26 @@ abbrev pub of_kind : {X : Type 0} → List ℕ → Option X → Result X Manifes
 of_kind name (Some x) = Ok x
 of_kind name None = Err (Kind name)
 
--- the value of a field as a kind: of one that is required, of one that is optional, and of a list that is optional and empty where it is absent
+-- the value of an optional field as a kind
+abbrev pub optionally : {X : Type 0} → (Data → Option X) → Option Data → Option (Option X)
+optionally kind None = Some None
+optionally kind (Some d) = option_map (λ x. Some x) (kind d)
+
+-- a required field and an optional field of a table as a kind
 abbrev pub needed : {X : Type 0} → (Data → Option X) → List ℕ → Members → Result X ManifestFault
 needed kind name ms = of_kind name (option_and_then kind (get_member name ms))
 
-abbrev pub wanted : {X : Type 0} → (Data → Option X) → List ℕ → Option Data → Result (Option X) ManifestFault
-wanted kind name None = Ok None
-wanted kind name (Some d) = of_kind name (option_map (λ x. Some x) (kind d))
-
-abbrev pub listed : {X : Type 0} → (Data → Option (List X)) → List ℕ → Option Data → Result (List X) ManifestFault
-listed kind name None = Ok []
-listed kind name (Some d) = of_kind name (kind d)
+abbrev pub wanted : {X : Type 0} → (Data → Option X) → List ℕ → Members → Result (Option X) ManifestFault
+wanted kind name ms = of_kind name (optionally kind (get_member name ms))
 
 -- the values of all fields, or the first field of another kind
-unfoldable pub values_of : Members → Result Values ManifestFault
+unfoldable pub values_of : Members → Result FieldValues ManifestFault
 values_of ms =
-    listed (array_of as_integer) (codes "coalition") (get_member (codes "coalition") ms) >>= λ coalition.
+    wanted (array_of as_integer) (codes "coalition") ms >>= λ coalition.
     needed (array_of as_pair) (codes "edges") ms >>= λ edges.
     needed as_str (codes "keys") ms >>= λ keys.
-    wanted as_str (codes "script") (get_member (codes "script") ms) >>= λ script.
+    wanted as_str (codes "script") ms >>= λ script.
     needed as_integer (codes "stations") ms >>= λ stations.
     needed (array_of as_str) (codes "streams") ms >>= λ streams.
     needed as_integer (codes "words") ms >>= λ words.
-    Ok (record { coalition = coalition; edges = edges; keys = keys; script = script; stations = stations; streams = streams; words = words })
+    Ok (record { coalition = unwrap_or coalition []; edges = edges; keys = keys; script = script; stations = stations; streams = streams; words = words })
