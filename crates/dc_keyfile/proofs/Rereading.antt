@@ -12,7 +12,7 @@ use Rattle.dc_formats.proofs.BinaryLaws.{few_pairs}
 use Rattle.dc_spec.specs.Words.{IsSymbol}
 use Rattle.dc_spec.specs.Bytes.{symbol_bytes, number_at, short_at}
 use Rattle.dc_spec.specs.Pads.{Pair, Keys}
-use Rattle.dc_formats.specs.KeyFile.{IsPair, IsBefore, IsKeys, pair_bytes, keys_bytes}
+use Rattle.dc_formats.specs.KeyFile.{IsPair, IsPairBefore, IsKeys, pair_bytes, keys_bytes}
 use Rattle.dc_keyfile.specs.Reading.{pair_size, due_length, piece_at, ends_of, are_ends, is_before, is_rising, numbers_at, pads_of, padded, pair_of, all_or_first, pairs_of, keys_after_head, keys_with_head, keys_from_bytes}
 use Rattle.dc_keyfile.proofs.Pads.{pads_are_read}
 use Rattle.dc_keyfile.proofs.PairsRead.{all_again}
@@ -94,7 +94,7 @@ is_before_again a b c d le equal =
           rw (not_less, as_much, less) refl
     ]
 
-before_again : (stations words : ℕ) (p q : Pair) → stations ≤ 256 → IsPair stations words p → IsPair stations words q → IsBefore p q
+before_again : (stations words : ℕ) (p q : Pair) → stations ≤ 256 → IsPair stations words p → IsPair stations words q → IsPairBefore p q
     → is_before (ends_of (pair_bytes p)) (ends_of (pair_bytes q)) ≡ true
 before_again stations words p q most is is' before =
     rw (lesser_again stations words p most is, lesser_again stations words q most is', greater_again stations words p most is, greater_again stations words q most is') (is_before_again p.u p.v q.u q.v before.lesser before.greater)
@@ -125,7 +125,7 @@ rising_again k is (suc i) d lt =
     let next : i + 1 ≡ suc i = omega arith in
     let one : piece_at (keys_bytes k) k.words i ≡ pair_bytes (get_or k.pairs i d) = piece_stands k is i d (omega arith) in
     let other : piece_at (keys_bytes k) k.words (suc i) ≡ pair_bytes (get_or k.pairs (suc i) d) = piece_stands k is (suc i) d lt in
-    let rises : IsBefore (get_or k.pairs i d) (get_or k.pairs (suc i) d) = subst (λ (n : ℕ). IsBefore (get_or k.pairs i d) (get_or k.pairs n d)) next (is.rising i d (omega arith)) in
+    let rises : IsPairBefore (get_or k.pairs i d) (get_or k.pairs (suc i) d) = subst (λ (n : ℕ). IsPairBefore (get_or k.pairs i d) (get_or k.pairs n d)) next (is.rising i d (omega arith)) in
     let ends : is_before (ends_of (piece_at (keys_bytes k) k.words i)) (ends_of (piece_at (keys_bytes k) k.words (suc i))) ≡ true
     = rw (one, other) (before_again k.stations k.words (get_or k.pairs i d) (get_or k.pairs (suc i) d) is.most_stations (is.are_pairs i d (omega arith)) (is.are_pairs (suc i) d lt) rises) in
     rw (not_first, before) ends

@@ -1,0 +1,5 @@
+pub mod Accepted
+pub mod Computing
+pub mod InTurn
+pub mod ItemsRead
+pub mod Rising
