@@ -2,7 +2,6 @@
 
 from .kind import Kind, byte_list, listing, numbers, option, pair, record
 
-<<<<<<< HEAD
 # All definitions that these kinds use. `manifest_on_literals` opens those that compute on a literal.
 HOMES = {
     "std.specs.Prelude": "pos negsuc",
@@ -13,9 +12,6 @@ HOMES = {
 }
 
 # how the text of a fault is written as a term: the variant, and its fields in order
-=======
-# how a fault's text is written as a term: the constructor, and its fields in order
->>>>>>> b8c7c9d67b7bc45ed95f41694897812fd9023f8c
 FAULTS = {
     "toml": ("Toml", []),
     "unknown": ("Unknown", ["name"]),
@@ -39,7 +35,6 @@ def integer(digits):
     return f"(pos {value})" if 0 <= value else f"(negsuc {-value - 1})"
 
 
-<<<<<<< HEAD
 def field(printed, name):
     """The value of the field that the text of a fault begins with, and the rest of the text."""
     if not printed.startswith(f"{name}="):
@@ -51,32 +46,13 @@ def field(printed, name):
 def graph_fault(printed):
     """A fault of the key graph."""
     kind, value = printed.split(" ")
-=======
-def field(told, name):
-    """The value of a field, which stands at the front of a fault's text, and the rest of the text."""
-    if not told.startswith(f"{name}="):
-        raise ValueError(told)
-    value = told[len(name) + 1 :]
-    return value.rsplit(" seen=", 1) if name == "name" and " seen=" in value else (value, "")
-
-
-def graph_fault(told):
-    """A fault of the key graph."""
-    kind, value = told.split(" ")
->>>>>>> b8c7c9d67b7bc45ed95f41694897812fd9023f8c
     variant, name = GRAPH_FAULTS[kind]
     return f"(Graph ({variant} {field(value, name)[0]}))"
 
 
-<<<<<<< HEAD
 def fault(printed):
     """A fault by its text."""
     kind, _, rest = printed.partition(" ")
-=======
-def fault(told):
-    """A fault by its text."""
-    kind, _, rest = told.partition(" ")
->>>>>>> b8c7c9d67b7bc45ed95f41694897812fd9023f8c
     if kind == "graph":
         return graph_fault(rest)
     variant, names = FAULTS[kind]
@@ -102,16 +78,11 @@ def content(case):
 
 
 def manifests(case):
-<<<<<<< HEAD
     """What is read of a document, or its first fault."""
-=======
-    """The claim that a document is read as its content, or refused by its fault."""
->>>>>>> b8c7c9d67b7bc45ed95f41694897812fd9023f8c
     due = f"Ok {content(case)}" if case["fault"] is None else f"Err {fault(case['fault'])}"
     return [f"manifest_of {byte_list(case['bytes'])} ≡ {due}"]
 
 
-<<<<<<< HEAD
 def manifests_refused(case):
     """The first fault of a refused document."""
     if case["format"] != "manifest" or case["fault"] is None:
@@ -122,20 +93,4 @@ def manifests_refused(case):
 KINDS = {
     "manifests": Kind("manifests", HOMES, "manifest_on_literals", manifests),
     "manifests_refused": Kind("files", HOMES, "manifest_on_literals", manifests_refused),
-=======
-KINDS = {
-    "manifests": Kind(
-        file="manifests",
-        uses="""
-use Rattle.std.specs.Prelude.{◌≡◌, refl, List, [], ◌∷◌, Some, None, Ok, Err, pos, negsuc}
-use Rattle.dc_graph.specs.declared.fault.GraphFault.TheVariants.{Stations, Ends, Repeated}
-use Rattle.dc_manifest.specs.declared.fault.ManifestFault.TheVariants.{Toml, Unknown, Field, Kind, Range, Graph, Member, TooLarge}
-use Rattle.dc_manifest.specs.Reading.{manifest_of}
-use Rattle.dc_manifest.proofs.Computing.{manifest_on_literals}
-""",
-        unfolding="manifest_on_literals",
-        claims=manifests,
-        stands_on=("dc_manifest",),
-    )
->>>>>>> b8c7c9d67b7bc45ed95f41694897812fd9023f8c
 }
