@@ -35,7 +35,7 @@ not_both words command p refused = let is = Spells-form words command p in absur
 same_file : (words : List (List ℕ)) (file other : List ℕ) → Spells words (sum file) → Spells words (sum other) → file ≡ other
 same_file words file other p q = let a = p.0 in let b = q.0 in cc
 
--- what is read of a name that is told
+-- the bytes that are read of a known file
 told_bytes : (told : Holding) (bytes read : List ℕ) → told ≡ held bytes → Tells told read → read ≡ bytes
 told_bytes told bytes read e t = let P : Holding → Type 0 = λ h. Tells h read in subst P e t
 

@@ -6,7 +6,7 @@ use Rattle.dc_cli.specs.Ran.{Ran, CommandRan}
 use Rattle.dc_cli.specs.declared.outcome.Outcome.{Outcome}
 use Rattle.dc_cli.specs.declared.outcome.Outcome.TheVariants.{Usage}
 
--- no command ends as words that are no form
+-- no command ends as words that are not a form do
 CommandRan-usage : (command : Task) (s s' : ShelfState) (o o' : SinkState) (place : ℕ) → CommandRan command s s' o o' (Usage place) → ⊥
 CommandRan-usage (sum file) s s' o o' place ran = ran.1
 

@@ -10,7 +10,7 @@ use Rattle.dc_spec.specs.Groups.{first_place, judged_group, group_of}
 use Rattle.dc_spec.proofs.GroupLemmas.{first_place-none}
 use Rattle.dc_field.proofs.Digits.{number_of-sum}
 
--- a word of a count up to 256 is judged by its limbs
+-- a word with a count of at most 256 is a group or not by its limbs
 judged_by : (w limbs : List ℕ) (place : Option ℕ) → limbs ≡ word_limbs w → ltb 256 (word_count w) ≡ false → place ≡ first_place (λ k. ltb (255 * word_count w) (get_or limbs k 0)) → judged_group (record { count = word_count w; limbs = limbs }) place ≡ group_of w
 unfolding group_of
 judged_by w limbs place same most is = rw (most, is, same) refl
@@ -22,7 +22,7 @@ limbs_slice w sixteen =
     fill_by_all (λ i. get_or w (i + 1) 0) (take 15 (drop 1 w)) 15 0 (omega (arith, length-take 15 (drop 1 w), length-drop 1 w))
     (λ k lt. rw (get_or-take 15 (drop 1 w) k 0 lt, get_or-drop) (ap (λ (n : ℕ). get_or w n 0) (omega arith)))
 
--- a word of sixteen symbols and a count up to 256 is judged by the first of the fifteen limbs that is too high
+-- a word of sixteen symbols with a count of at most 256 is a group or not by the first of the fifteen limbs that is too high
 pub judged-group_of : (w : List ℕ) (place : Option ℕ) → length w ≡ 16 → word_count w ≤ 256 → place ≡ first_place (λ k. ltb (255 * word_count w) (get_or (take 15 (drop 1 w)) k 0)) → judged_group (record { count = word_count w; limbs = take 15 (drop 1 w) }) place ≡ group_of w
 judged-group_of w place sixteen most is = judged_by w (take 15 (drop 1 w)) place (limbs_slice w sixteen) (grind (arith, nat_tests)) is
 

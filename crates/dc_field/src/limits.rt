@@ -61,5 +61,4 @@ pub fn limits_are_those_of_specifications()
     ensures script { SCRIPT_LIMIT ≡ script_limit }
     ensures permutation { PERMUTATION_LIMIT ≡ permutation_limit }
     ensures wanted_words { WANTED_WORDS_LIMIT ≡ wanted_words_limit }
-{
-}
+{}

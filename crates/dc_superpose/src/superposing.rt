@@ -15,9 +15,7 @@ pub fn sums(alloc: Global, t: &Transcript) -> Result<Words, NoMemory>
     let stations = t.stations as usize;
     let mut sums = Vec::with_capacity(alloc, t.rounds as usize)?;
     for r in 0..t.rounds as usize {
-        sums.push_reserved(Word::sum(
-            &words[r * stations..r * stations + stations],
-        ));
+        sums.push_reserved(Word::sum(&words[r * stations..r * stations + stations]));
     }
     Ok(Words::from_vec(sums))
 }

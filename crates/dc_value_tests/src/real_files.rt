@@ -18,7 +18,13 @@ fn a_shelf_reads_files(rt: HostRuntime) -> Result<(), Fail> {
     let mut shelf = DirShelf::new(rt);
     reads(&rt, &mut shelf, path.as_str(), 6, Ok(b"six by"));
     reads(&rt, &mut shelf, path.as_str(), 5, Err(ShelfFault::TooLong));
-    reads(&rt, &mut shelf, absent.as_str(), 6, Err(ShelfFault::Missing));
+    reads(
+        &rt,
+        &mut shelf,
+        absent.as_str(),
+        6,
+        Err(ShelfFault::Missing),
+    );
     reads(&rt, &mut shelf, folder, 1 << 20, Err(ShelfFault::Failed));
     reads(&rt, &mut shelf, "/dev/null", 6, Ok(b""));
     reads(&rt, &mut shelf, "/dev/zero", 6, Err(ShelfFault::TooLong));

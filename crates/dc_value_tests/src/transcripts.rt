@@ -49,7 +49,11 @@ fn reads<R: AllocGlobal + Abort>(
     assert_eq!(rt; (t.stations, t.rounds), sizes);
     are(rt, &t.words, words);
     are(rt, &sums(rt.alloc(), &t)?, due);
-    are(rt, &read_sums(rt.alloc(), b).ok().ok_or("it is a file")?, due);
+    are(
+        rt,
+        &read_sums(rt.alloc(), b).ok().ok_or("it is a file")?,
+        due,
+    );
     Ok(())
 }
 
@@ -106,7 +110,12 @@ fn two_rounds_of_two(rt: HostRuntime) -> Result<(), Fail> {
         sums[0][l] = 65519 - 2 * l as u32;
         sums[1][l] = 65455 - 2 * l as u32;
     }
-    let words = [falling(65536), falling(65520), falling(65504), falling(65488)];
+    let words = [
+        falling(65536),
+        falling(65520),
+        falling(65504),
+        falling(65488),
+    ];
     reads(&rt, &b, (2, 2), &words, &sums)
 }
 

@@ -1,6 +1,9 @@
 //! Words: their sums, their text and their bytes.
 
-use dc_field::{Sym, SymFault, Word, WordFault, read_word, read_word_bytes, read_word_text, word_bytes, word_text};
+use dc_field::{
+    Sym, SymFault, Word, WordFault, read_word, read_word_bytes, read_word_text, word_bytes,
+    word_text,
+};
 use std::process::Abort;
 use std::test::Fail;
 
