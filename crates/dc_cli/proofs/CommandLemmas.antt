@@ -28,11 +28,11 @@ ReadsAs-sum verb rest (Ok (Sum file)) test p =
 ReadsAs-sum verb rest (Err place) test p =
     (rw (test, p.0) refl, rw test (p.1 ∙ one_more (begun (name ∷ []) rest)))
 
--- words that begin with another word are no form
+-- words that begin with another word are not a form
 pub other_word : (verb : List ℕ) (rest : List (List ℕ)) → bytes_eq verb (codes "sum") ≡ false → (is_form (verb ∷ rest) ≡ false) × (0 ≡ longest_begun (verb ∷ rest))
 other_word verb rest test = (rw test refl, rw test refl)
 
--- no words are no form
+-- an empty command line is not a form
 pub no_words : {A : Type 0} (xs : List (String A)) → length xs < 1 → (is_form (texts xs) ≡ false) × (0 ≡ longest_begun (texts xs))
 no_words [] lt = (refl, refl)
 no_words (x ∷ xs) lt = absurd (omega arith)

@@ -30,10 +30,14 @@ Printed-then words rest n s0 s1 s2 u p more = record {
 }
 
 -- a put of some more words failed
-pub Printed-stops : (words rest : List (List ℕ)) (n : ℕ) (s0 s1 s2 : SinkState) (f : Failed) (r : Result Unit Failed) → Printed words rest s0 s1 → Puts (words_text (take n rest)) s1 s2 (Err f) → IsErr r → Puts (words_text words) s0 s2 r
+pub Printed-stops : (words rest : List (List ℕ)) (n : ℕ) (s0 s1 s2 : SinkState) (f : Failed) (r : Result Unit Failed) → Printed words rest s0 s1
+    → Puts (words_text (take n rest)) s1 s2 (Err f) → IsErr r → Puts (words_text words) s0 s2 r
 Printed-stops words rest n s0 s1 s2 f r p more is =
-    let text : words_text words ≡ words_text p.front ++ words_text (take n rest) ++ words_text (drop n rest) = ap words_text (parts-then words p.front rest n p.parts) ∙ words_text-append (p.front ++ take n rest) (drop n rest) ∙ ap (λ (t : List ℕ). t ++ words_text (drop n rest)) (words_text-append p.front (take n rest)) in
-    rw (text, append_assoc (words_text p.front) (words_text (take n rest)) (words_text (drop n rest))) (Puts-then (words_text p.front) (words_text (take n rest) ++ words_text (drop n rest)) s0 s1 s2 tt r p.put (Puts-stops (words_text (take n rest)) (words_text (drop n rest)) s1 s2 f r more is))
+    let text : words_text words ≡ words_text p.front ++ words_text (take n rest) ++ words_text (drop n rest) = ap words_text (parts-then words p.front rest n p.parts)
+    ∙ words_text-append (p.front ++ take n rest) (drop n rest) ∙ ap (λ (t : List ℕ). t ++ words_text (drop n rest)) (words_text-append p.front (take n rest)) in
+    rw (text, append_assoc (words_text p.front) (words_text (take n rest)) (words_text (drop n rest)))
+    (Puts-then (words_text p.front) (words_text (take n rest) ++ words_text (drop n rest)) s0 s1 s2 tt r p.put
+    (Puts-stops (words_text (take n rest)) (words_text (drop n rest)) s1 s2 f r more is))
 
 -- nothing was put yet
 pub Printed-none : (words rest : List (List ℕ)) (s : SinkState) → rest ≡ words → Printed words rest s s

@@ -35,7 +35,7 @@ not_both words command p refused = let is = Spells-form words command p in absur
 same_file : (words : List (List ℕ)) (file other : List ℕ) → Spells words (sum file) → Spells words (sum other) → file ≡ other
 same_file words file other p q = let a = p.0 in let b = q.0 in cc
 
--- what is read of a name that is told
+-- the bytes that are read of a known file
 told_bytes : (told : Holding) (bytes read : List ℕ) → told ≡ held bytes → Tells told read → read ≡ bytes
 told_bytes told bytes read e t = let P : Holding → Type 0 = λ h. Tells h read in subst P e t
 
@@ -94,10 +94,12 @@ SumRan-asked file s s' o o' SinkFault p = asked_whole file s s' p.1.summed.read.
 SumRan-asked file s s' o o' other p = SummedFile-asked file s s' (Err other) p.1
 
 -- what `sum` did with the file that its words name
-sum_ran : (words : List (List ℕ)) (file : List ℕ) (s s' : ShelfState) (o o' : SinkState) (outcome : Outcome) → Spells words (sum file) → RanCommand words s s' o o' outcome → SumRan file s s' o o' outcome
+sum_ran : (words : List (List ℕ)) (file : List ℕ) (s s' : ShelfState) (o o' : SinkState) (outcome : Outcome) → Spells words (sum file) → RanCommand words s s' o o' outcome
+    → SumRan file s s' o o' outcome
 sum_ran words file s s' o o' outcome p ran = ran_as words file s s' o o' outcome ran.command p ran.spelled ran.ran
   where
-    ran_as : (words : List (List ℕ)) (file : List ℕ) (s s' : ShelfState) (o o' : SinkState) (outcome : Outcome) (command : Task) → Spells words (sum file) → Spells words command → CommandRan command s s' o o' outcome → SumRan file s s' o o' outcome
+    ran_as : (words : List (List ℕ)) (file : List ℕ) (s s' : ShelfState) (o o' : SinkState) (outcome : Outcome) (command : Task) → Spells words (sum file) → Spells words command
+        → CommandRan command s s' o o' outcome → SumRan file s s' o o' outcome
     ran_as words file s s' o o' outcome (sum other) p q r = let e = same_file words file other p q in rw e r
 
 sum_ran_of : (words : List (List ℕ)) (file : List ℕ) (s s' : ShelfState) (o o' : SinkState) (outcome : Outcome) → Spells words (sum file) → Ran words s s' o o' outcome → SumRan file s s' o o' outcome
@@ -139,7 +141,8 @@ silent words s s' o o' (Usage place) not_done not_sink ran = ran.out_stays
 silent words s s' o o' other not_done not_sink ran = CommandRan-silent ran.command s s' o o' other not_done not_sink ran.ran
 
 -- what `sum` printed where all was done
-done_prints : (file bytes : List ℕ) (s s' : ShelfState) (o o' : SinkState) → s.holds file ≡ held bytes → SumRan file s s' o o' Done → (session : Recorded) × IsRecorded session × (bytes ≡ transcript_bytes session) × (o'.written ≡ grown o.written (words_text (superposed session)))
+done_prints : (file bytes : List ℕ) (s s' : ShelfState) (o o' : SinkState) → s.holds file ≡ held bytes → SumRan file s s' o o' Done
+    → (session : Recorded) × IsRecorded session × (bytes ≡ transcript_bytes session) × (o'.written ≡ grown o.written (words_text (superposed session)))
 done_prints file bytes s s' o o' told p =
     let summed = p.summed.holds in
     let same : p.summed.bytes ≡ bytes = told_bytes (s.holds file) bytes p.summed.bytes told p.summed.read.answer.1 in
@@ -148,30 +151,35 @@ done_prints file bytes s s' o o' told p =
 done_as : (file : List ℕ) (s s' : ShelfState) (o o' : SinkState) (outcome : Outcome) → outcome ≡ Done → SumRan file s s' o o' outcome → SumRan file s s' o o' Done
 done_as file s s' o o' outcome e p = let P : Outcome → Type 0 = λ x. SumRan file s s' o o' x in subst P e p
 
-missing_cause : (command : Task) (s s' : ShelfState) (o o' : SinkState) (name : List ℕ) → CommandRan command s s' o o' (Missing name) → (s.holds name ≡ absent) ⊎ FailsUntold (s.holds name) s.faults s'.faults
+missing_cause : (command : Task) (s s' : ShelfState) (o o' : SinkState) (name : List ℕ) → CommandRan command s s' o o' (Missing name)
+    → (s.holds name ≡ absent) ⊎ FailsUntold (s.holds name) s.faults s'.faults
 missing_cause (sum file) s s' o o' name ran = rw ran.1.0 ran.1.1.answer
 
-missing : (words : List (List ℕ)) (s s' : ShelfState) (o o' : SinkState) (outcome : Outcome) (name : List ℕ) → outcome ≡ Missing name → Ran words s s' o o' outcome → (s.holds name ≡ absent) ⊎ FailsUntold (s.holds name) s.faults s'.faults
+missing : (words : List (List ℕ)) (s s' : ShelfState) (o o' : SinkState) (outcome : Outcome) (name : List ℕ) → outcome ≡ Missing name → Ran words s s' o o' outcome
+    → (s.holds name ≡ absent) ⊎ FailsUntold (s.holds name) s.faults s'.faults
 missing words s s' o o' outcome name e ran =
     let P : Outcome → Type 0 = λ x. Ran words s s' o o' x in
     let r : Ran words s s' o o' (Missing name) = subst P e ran in
     missing_cause r.command s s' o o' name r.ran
 
-too_long : (words : List (List ℕ)) (command : Task) (s s' : ShelfState) (o o' : SinkState) (outcome : Outcome) (name : List ℕ) → Spells words command → outcome ≡ TooLong name → Ran words s s' o o' outcome
+too_long : (words : List (List ℕ)) (command : Task) (s s' : ShelfState) (o o' : SinkState) (outcome : Outcome) (name : List ℕ) → Spells words command → outcome ≡ TooLong name
+    → Ran words s s' o o' outcome
     → (limit : ℕ) × HasLimit s command name limit × (IsHeldAbove (s.holds name) limit ⊎ FailsUntold (s.holds name) s.faults s'.faults)
 too_long words (sum file) s s' o o' outcome name p e ran =
     let P : Outcome → Type 0 = λ x. SumRan file s s' o o' x in
     let r : SumRan file s s' o o' (TooLong name) = subst P e (sum_ran_of words file s s' o o' outcome p ran) in
     (transcript_limit, (r.1.0, refl), rw r.1.0 r.1.1.answer)
 
-fault_cause : (command : Task) (s s' : ShelfState) (o o' : SinkState) (name bytes : List ℕ) (fault : TranscriptFault) → s.holds name ≡ held bytes → CommandRan command s s' o o' (Malformed name (Transcript fault)) → Refused bytes fault
+fault_cause : (command : Task) (s s' : ShelfState) (o o' : SinkState) (name bytes : List ℕ) (fault : TranscriptFault) → s.holds name ≡ held bytes
+    → CommandRan command s s' o o' (Malformed name (Transcript fault)) → Refused bytes fault
 fault_cause (sum file) s s' o o' name bytes fault told ran =
     let told_file : s.holds file ≡ held bytes = ap s.holds (sym ran.1.0) ∙ told in
     let same : ran.1.1.bytes ≡ bytes = told_bytes (s.holds file) bytes ran.1.1.bytes told_file ran.1.1.read.answer.1 in
     let P : List ℕ → Type 0 = λ b. Refused b fault in
     subst P same ran.1.1.holds
 
-malformed : (words : List (List ℕ)) (s s' : ShelfState) (o o' : SinkState) (outcome : Outcome) (name bytes : List ℕ) (fault : TranscriptFault) → outcome ≡ Malformed name (Transcript fault) → s.holds name ≡ held bytes → Ran words s s' o o' outcome → Refused bytes fault
+malformed : (words : List (List ℕ)) (s s' : ShelfState) (o o' : SinkState) (outcome : Outcome) (name bytes : List ℕ) (fault : TranscriptFault)
+    → outcome ≡ Malformed name (Transcript fault) → s.holds name ≡ held bytes → Ran words s s' o o' outcome → Refused bytes fault
 malformed words s s' o o' outcome name bytes fault e told ran =
     let P : Outcome → Type 0 = λ x. Ran words s s' o o' x in
     let r : Ran words s s' o o' (Malformed name (Transcript fault)) = subst P e ran in
@@ -187,9 +195,24 @@ last_is name file s s' e asked = ([], rw e asked)
 SumRan-last : (file : List ℕ) (s s' : ShelfState) (o o' : SinkState) (outcome : Outcome) (name : List ℕ) → TellsName outcome name → SumRan file s s' o o' outcome → LastAsked name s s'
 SumRan-last file s s' o o' Done name tells p = elim tells [ inl e ↦ absurd cc | inr other ↦ elim other [ inl e ↦ absurd cc | inr m ↦ let e = m.1 in absurd cc ] ]
 SumRan-last file s s' o o' (Usage place) name tells p = absurd p.1
-SumRan-last file s s' o o' (Missing seen) name tells p = elim tells [ inl e ↦ let same : name ≡ seen = cc in last_is name file s s' (same ∙ p.1.0) p.1.1.asked | inr other ↦ elim other [ inl e ↦ absurd cc | inr m ↦ let e = m.1 in absurd cc ] ]
-SumRan-last file s s' o o' (TooLong seen) name tells p = elim tells [ inl e ↦ absurd cc | inr other ↦ elim other [ inl e ↦ let same : name ≡ seen = cc in last_is name file s s' (same ∙ p.1.0) p.1.1.asked | inr m ↦ let e = m.1 in absurd cc ] ]
-SumRan-last file s s' o o' (Malformed seen (Transcript fault)) name tells p = elim tells [ inl e ↦ absurd cc | inr other ↦ elim other [ inl e ↦ absurd cc | inr m ↦ let e = m.1 in let same : name ≡ seen = cc in last_is name file s s' (same ∙ p.1.0) p.1.1.read.asked ] ]
+SumRan-last file s s' o o' (Missing seen) name tells p = elim tells [
+  | inl e ↦ let same : name ≡ seen = cc in last_is name file s s' (same ∙ p.1.0) p.1.1.asked
+  | inr other ↦ elim other [ inl e ↦ absurd cc | inr m ↦ let e = m.1 in absurd cc ]
+]
+SumRan-last file s s' o o' (TooLong seen) name tells p = elim tells [
+  | inl e ↦ absurd cc
+  | inr other ↦ elim other [
+    | inl e ↦ let same : name ≡ seen = cc in last_is name file s s' (same ∙ p.1.0) p.1.1.asked
+    | inr m ↦ let e = m.1 in absurd cc
+  ]
+]
+SumRan-last file s s' o o' (Malformed seen (Transcript fault)) name tells p = elim tells [
+  | inl e ↦ absurd cc
+  | inr other ↦ elim other [
+    | inl e ↦ absurd cc
+    | inr m ↦ let e = m.1 in let same : name ≡ seen = cc in last_is name file s s' (same ∙ p.1.0) p.1.1.read.asked
+  ]
+]
 SumRan-last file s s' o o' ShelfFault name tells p = elim tells [ inl e ↦ absurd cc | inr other ↦ elim other [ inl e ↦ absurd cc | inr m ↦ let e = m.1 in absurd cc ] ]
 SumRan-last file s s' o o' SinkFault name tells p = elim tells [ inl e ↦ absurd cc | inr other ↦ elim other [ inl e ↦ absurd cc | inr m ↦ let e = m.1 in absurd cc ] ]
 SumRan-last file s s' o o' NoMemory name tells p = elim tells [ inl e ↦ absurd cc | inr other ↦ elim other [ inl e ↦ absurd cc | inr m ↦ let e = m.1 in absurd cc ] ]
@@ -232,7 +255,9 @@ held_within told bytes limit a le above =
     held_same : (xs ys : List ℕ) → held xs ≡ held ys → xs ≡ ys
     held_same xs ys e = cc
 
-SumRan-completes : (file : List ℕ) (session : Recorded) (s s' : ShelfState) (o o' : SinkState) (outcome : Outcome) → IsRecorded session → s.holds file ≡ held (transcript_bytes session) → length (transcript_bytes session) ≤ transcript_limit → (Rose s.faults s'.faults → ⊥) → (Rose o.faults o'.faults → ⊥) → SumRan file s s' o o' outcome → (outcome ≡ Done) ⊎ (outcome ≡ NoMemory)
+SumRan-completes : (file : List ℕ) (session : Recorded) (s s' : ShelfState) (o o' : SinkState) (outcome : Outcome) → IsRecorded session → s.holds file ≡ held (transcript_bytes session)
+    → length (transcript_bytes session) ≤ transcript_limit → (Rose s.faults s'.faults → ⊥) → (Rose o.faults o'.faults → ⊥) → SumRan file s s' o o' outcome
+    → (outcome ≡ Done) ⊎ (outcome ≡ NoMemory)
 SumRan-completes file session s s' o o' Done is told le calm_shelf calm_sink p = inl refl
 SumRan-completes file session s s' o o' NoMemory is told le calm_shelf calm_sink p = inr refl
 SumRan-completes file session s s' o o' SinkFault is told le calm_shelf calm_sink p = absurd (calm_sink p.1.put.answer.1)
@@ -246,7 +271,8 @@ SumRan-completes file session s s' o o' (Malformed name (Transcript fault)) is t
     let same : p.1.1.bytes ≡ transcript_bytes session = told_bytes (s.holds file) (transcript_bytes session) p.1.1.bytes told p.1.1.read.answer.1 in
     absurd (p.1.1.holds.no_transcript session is same)
 
-SumRan-refuses : (file bytes : List ℕ) (fault : TranscriptFault) (s s' : ShelfState) (o o' : SinkState) (outcome : Outcome) → s.holds file ≡ held bytes → length bytes ≤ transcript_limit → transcript_of bytes ≡ Err fault → (Rose s.faults s'.faults → ⊥) → SumRan file s s' o o' outcome → (outcome ≡ Malformed file (Transcript fault)) ⊎ (outcome ≡ NoMemory)
+SumRan-refuses : (file bytes : List ℕ) (fault : TranscriptFault) (s s' : ShelfState) (o o' : SinkState) (outcome : Outcome) → s.holds file ≡ held bytes → length bytes ≤ transcript_limit
+    → transcript_of bytes ≡ Err fault → (Rose s.faults s'.faults → ⊥) → SumRan file s s' o o' outcome → (outcome ≡ Malformed file (Transcript fault)) ⊎ (outcome ≡ NoMemory)
 SumRan-refuses file bytes fault s s' o o' Done told le bad calm p =
     let same : p.summed.bytes ≡ bytes = told_bytes (s.holds file) bytes p.summed.bytes told p.summed.read.answer.1 in
     let good : transcript_of bytes ≡ Ok p.summed.holds.session = ap transcript_of (sym same) ∙ p.summed.holds.decoded in
@@ -295,7 +321,8 @@ pub PrintsOnlyWhenDone-run : (c : Call) → HasRun c → PrintsOnlyWhenDone c
 PrintsOnlyWhenDone-run c ran = λ not_done not_sink. silent c.words c.shelf c.shelf' c.out c.out' c.outcome not_done not_sink ran
 
 pub PrintsSums-run : (c : Call) → HasRun c → PrintsSums c
-PrintsSums-run c ran = λ e file bytes p told. done_prints file bytes c.shelf c.shelf' c.out c.out' told (done_as file c.shelf c.shelf' c.out c.out' c.outcome e (sum_ran_of c.words file c.shelf c.shelf' c.out c.out' c.outcome p ran))
+PrintsSums-run c ran = λ e file bytes p told. done_prints file bytes c.shelf c.shelf' c.out c.out' told
+    (done_as file c.shelf c.shelf' c.out c.out' c.outcome e (sum_ran_of c.words file c.shelf c.shelf' c.out c.out' c.outcome p ran))
 
 pub MissesTheAbsent-run : (c : Call) → HasRun c → MissesTheAbsent c
 MissesTheAbsent-run c ran = λ name e. missing c.words c.shelf c.shelf' c.out c.out' c.outcome name e ran
@@ -317,10 +344,12 @@ short_enough : (session : Recorded) → IsRecorded session → length (transcrip
 short_enough session is = omega (arith, transcript_size session is)
 
 pub Completes-run : (c : Call) → HasRun c → Completes c
-Completes-run c ran = λ file session p is told calm_shelf calm_sink. SumRan-completes file session c.shelf c.shelf' c.out c.out' c.outcome is told (short_enough session is) calm_shelf calm_sink (sum_ran_of c.words file c.shelf c.shelf' c.out c.out' c.outcome p ran)
+Completes-run c ran = λ file session p is told calm_shelf calm_sink. SumRan-completes file session c.shelf c.shelf' c.out c.out' c.outcome is told
+    (short_enough session is) calm_shelf calm_sink (sum_ran_of c.words file c.shelf c.shelf' c.out c.out' c.outcome p ran)
 
 pub RefusesTheMalformed-run : (c : Call) → HasRun c → RefusesTheMalformed c
-RefusesTheMalformed-run c ran = λ file bytes fault p told le bad calm. SumRan-refuses file bytes fault c.shelf c.shelf' c.out c.out' c.outcome told le bad calm (sum_ran_of c.words file c.shelf c.shelf' c.out c.out' c.outcome p ran)
+RefusesTheMalformed-run c ran = λ file bytes fault p told le bad calm. SumRan-refuses file bytes fault c.shelf c.shelf' c.out c.out' c.outcome told le bad calm
+    (sum_ran_of c.words file c.shelf c.shelf' c.out c.out' c.outcome p ran)
 
 pub TellsTheLast-run : (c : Call) → HasRun c → TellsTheLast c
 TellsTheLast-run c ran = λ name tells. last_asked c.words c.shelf c.shelf' c.out c.out' c.outcome name tells ran

@@ -97,7 +97,8 @@ TellsTheFault c = (name bytes : List ℕ) → (fault : TranscriptFault) → c.ou
 
 -- a known file within its limit that is no transcript is refused by its first fault, unless the count of faults rose or memory ran out
 abbrev pub RefusesTheMalformed : Call → Type 0
-RefusesTheMalformed c = (file bytes : List ℕ) → (fault : TranscriptFault) → Spells c.words (sum file) → c.shelf.holds file ≡ held bytes → length bytes ≤ transcript_limit → transcript_of bytes ≡ Err fault →
+RefusesTheMalformed c = (file bytes : List ℕ) → (fault : TranscriptFault) → Spells c.words (sum file) →
+    c.shelf.holds file ≡ held bytes → length bytes ≤ transcript_limit → transcript_of bytes ≡ Err fault →
     (Rose c.shelf.faults c.shelf'.faults → ⊥) → (c.outcome ≡ Malformed file (Transcript fault)) ⊎ (c.outcome ≡ NoMemory)
 
 -- a fault of the outside is reported only where its count rose

@@ -12,7 +12,8 @@ use std::alloc::Global;
 
 /// Prints the superposed words of a transcript.
 pub fn run_sum<F: Shelf, K: Sink>(alloc: Global, file: &str, shelf: &mut F, out: &mut K) -> Outcome
-    ensures { SumRan file.now (F.state shelf.old) (F.state shelf.new) (K.state out.old) (K.state out.new) result }
+    ensures { SumRan file.now (F.state shelf.old) (F.state shelf.new)
+        (K.state out.old) (K.state out.new) result }
 {
     match sums_of_file(alloc, file, shelf) {
         Err(outcome) => outcome,

@@ -24,7 +24,8 @@ pub fn dcnet<R: Threads + Sync, F: Shelf, K: Sink, E: Sink, G: Gate + Sync>(
     err: &mut E,
     gate: &G,
 ) -> Outcome
-    ensures ran { Ran (texts words.now) (F.state shelf.old) (F.state shelf.new) (K.state out.old) (K.state out.new) result }
+    ensures ran { Ran (texts words.now) (F.state shelf.old) (F.state shelf.new)
+        (K.state out.old) (K.state out.new) result }
     ensures err { PutsLine result (E.state err.old) (E.state err.new) }
     ensures words { RefusesOtherWords
         (call F.state K.state words.now shelf.old shelf.new out.old out.new result) }
@@ -58,7 +59,8 @@ pub fn dcnet<R: Threads + Sync, F: Shelf, K: Sink, E: Sink, G: Gate + Sync>(
 
 /// Runs the command that the words spell.
 fn run<F: Shelf, K: Sink>(alloc: Global, words: &[String], shelf: &mut F, out: &mut K) -> Outcome
-    ensures { Ran (texts words.now) (F.state shelf.old) (F.state shelf.new) (K.state out.old) (K.state out.new) result }
+    ensures { Ran (texts words.now) (F.state shelf.old) (F.state shelf.new)
+        (K.state out.old) (K.state out.new) result }
 {
     match command_of(words) {
         Err(place) => Outcome::Usage { place },
@@ -72,7 +74,8 @@ fn run_command<F: Shelf, K: Sink>(
     shelf: &mut F,
     out: &mut K,
 ) -> Outcome
-    ensures { CommandRan (task_of command.entry) (F.state shelf.old) (F.state shelf.new) (K.state out.old) (K.state out.new) result }
+    ensures { CommandRan (task_of command.entry) (F.state shelf.old) (F.state shelf.new)
+        (K.state out.old) (K.state out.new) result }
 {
     match command {
         Command::Sum { file } => run_sum(alloc, file, shelf, out),

@@ -21,7 +21,7 @@ number_in-decimal n lt =
     let written : bytes_eq (decimal n) (decimal n) ≡ true = (bytes_eq-Decides (decimal n) (decimal n)).1 refl in
     rw (same, lt-ltb n (2 ^ 32) lt, written) refl
 
--- what a choice tells that gave a number
+-- a choice that gave a number: its condition, and the number
 chosen : (b : Bool) (m n : ℕ) → cond b (Some m) None ≡ Some n → (b ≡ true) × (m ≡ n)
 chosen true m n e = (refl, cc)
 chosen false m n e = absurd cc

@@ -24,7 +24,7 @@ byte_of w l j at lt small is =
     let before : length (flat_map symbol_bytes (take l w)) + j ≡ at = omega (arith, length_of_pieces symbol_bytes 4 (take l w) (λ _ _ _. refl), length-take l w) in
     rw (← before) (get_or-flat_map symbol_bytes w l j 0 0 lt small)
 
--- the number that stands at a symbol's place
+-- the number at a symbol's place
 number_there : (w : List ℕ) (l : ℕ) → l < length w → get_or w l 0 < 2 ^ 32 → number_at (flat_map symbol_bytes w) (0 + 4 * l) ≡ get_or w l 0
 number_there w l lt small =
     rw (byte_of w l 0 (0 + 4 * l) lt (omega arith) (omega arith), byte_of w l 1 (0 + 4 * l + 1) lt (omega arith) (omega arith), byte_of w l 2 (0 + 4 * l + 2) lt (omega arith) (omega arith), byte_of w l 3 (0 + 4 * l + 3) lt (omega arith) (omega arith))

@@ -67,7 +67,7 @@ five (a ∷ b ∷ c ∷ d ∷ f ∷ g ∷ xs) e = absurd (omega arith)
 abbrev AreDigits : List ℕ → Type 0
 AreDigits text = (k : ℕ) → k < length text → digit_in (get_or text k 0) ≡ Some (count_of (get_or text k 0))
 
--- what stands at a place of a piece
+-- an item of a piece
 piece_at : (text : List ℕ) (at j : ℕ) → j < 5 → get_or (take 5 (drop at text)) j 0 ≡ get_or text (at + j) 0
 piece_at text at j lt = get_or-take 5 (drop at text) j 0 lt ∙ get_or-drop at text j 0
 
@@ -176,7 +176,7 @@ char_of w l j at lt small is =
     let char : get_or (word_text w) at 0 ≡ get_or (symbol_text (get_or w l 0)) j 0 = rw (← before) (get_or-flat_map symbol_text w l j 0 0 lt small) in
     get_or-map count_of (word_text w) at 0 0 (omega (arith, length_of_pieces symbol_text 5 w (λ _ _ _. refl))) ∙ ap count_of char
 
--- the number that stands at a symbol's place
+-- the number at a symbol's place
 number_there : (w : List ℕ) (l : ℕ) → l < length w → get_or w l 0 < 65537 → symbol_at (map count_of (word_text w)) (5 * l) ≡ get_or w l 0
 number_there w l lt small =
     let x = get_or w l 0 in

@@ -31,7 +31,7 @@ abbrev pub told_in_text : Result (List ℕ) SymFault → Result (List ℕ) WordF
 told_in_text (Ok w) = Ok w
 told_in_text (Err fault) = Err (Symbol fault.symbol fault.seen)
 
--- the word of eighty characters, the first of which that is no digit stands there
+-- the word of eighty characters, or the fault at the place of the first that is not a digit
 abbrev pub word_of_digits : List ℕ → Option ℕ → Result (List ℕ) WordFault
 word_of_digits text None = told_in_text (word_of_numbers (numbers_of (map count_of text)))
 word_of_digits text (Some place) = Err (Digit place)

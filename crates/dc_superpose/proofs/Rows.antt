@@ -42,18 +42,18 @@ no_bytes : transcript_of [] ≡ Err (Truncated 0 8)
 unfolding transcript_of sized body_of words_of word_of
 no_bytes = refl
 
--- the symbol is told before the length of the rest
+-- a bad symbol is reported before bytes after the last word
 symbol_before_rest : transcript_of (codes "DCT1" ++ (0 ∷ 1 ∷ 0 ∷ 1 ∷ []) ++ times 13 (0 ∷ 0 ∷ 0 ∷ 0 ∷ []) ++ times 1 (255 ∷ 255 ∷ 255 ∷ 255 ∷ []) ++ times 5 (0 ∷ 0 ∷ 0 ∷ 0 ∷ [])) ≡ Err
     (Symbol 60 4294967295)
 unfolding transcript_of sized body_of words_of word_of
 symbol_before_rest = refl
 
--- the rounds are told before the length
+-- the number of rounds is reported before the length
 rounds_before_length : transcript_of (codes "DCT1" ++ (0 ∷ 2 ∷ 0 ∷ 0 ∷ [])) ≡ Err (Words 0)
 unfolding transcript_of sized body_of words_of word_of
 rounds_before_length = refl
 
--- the first bytes are told before the stations
+-- the first bytes are reported before the number of stations
 magic_before_stations : transcript_of (68 ∷ 67 ∷ 2 ∷ 49 ∷ 0 ∷ 0 ∷ 0 ∷ 0 ∷ []) ≡ Err Magic
 unfolding transcript_of sized body_of words_of word_of
 magic_before_stations = refl

@@ -62,7 +62,7 @@ length-transcript_bytes t is =
 word_stands : (t : Recorded) → IsRecorded t → (i : ℕ) → i < length t.words → word_at (transcript_bytes t) (8 + 64 * i) ≡ get_or t.words i []
 word_stands t is i lt =
     let piece : take 64 (drop (8 + 64 * i) (transcript_bytes t)) ≡ word_bytes (get_or t.words i []) = rw
-        (← drop-drop (64 * i) 8 (transcript_bytes t), drop_at (header_bytes t) (flat_map word_bytes t.words) 8 refl) (piece_of word_bytes 64 t.words (wide_words t is) i [] lt) in
+    (← drop-drop (64 * i) 8 (transcript_bytes t), drop_at (header_bytes t) (flat_map word_bytes t.words) 8 refl) (piece_of word_bytes 64 t.words (wide_words t is) i [] lt) in
     sym (word_in_piece (transcript_bytes t) (8 + 64 * i)) ∙ ap (λ (p : List ℕ). word_at p 0) piece ∙ word_again (get_or t.words i []) (is.are_words i [] lt)
 
 words_stand : (t : Recorded) → IsRecorded t → words_at (transcript_bytes t) (t.rounds * t.stations) ≡ t.words
@@ -87,7 +87,7 @@ body_again t is =
     let long = length-transcript_bytes t is in
     let not_short : ltb (length (transcript_bytes t)) (due_length (t.rounds * t.stations)) ≡ false = le-ltb _ _ (omega arith) in
     let read : words_of (transcript_bytes t) (t.rounds * t.stations) ≡ Ok t.words = words_are_read (transcript_bytes t) (t.rounds * t.stations) (symbols_stand t is)
-        ∙ ap (λ (ws : List (List ℕ)). Ok ws) (words_stand t is) in
+    ∙ ap (λ (ws : List (List ℕ)). Ok ws) (words_stand t is) in
     let not_long : ltb (due_length (t.rounds * t.stations)) (length (transcript_bytes t)) ≡ false = le-ltb _ _ (omega arith) in
     rw (not_short, read, not_long) refl
 
@@ -133,9 +133,9 @@ three a b c x y z p q r = append_assoc a b c ∙ cc
 header_spelled : (b : List ℕ) → IsBytes b → 8 ≤ length b → codes "DCT1" ≡ take 4 b → codes "DCT1" ++ to_be_bytes w16 (short_at b 4) ++ to_be_bytes w16 (short_at b 6) ≡ take 8 b
 header_spelled b fits long magic =
     let parts : take 8 b ≡ take 4 b ++ (take 2 (drop 4 b) ++ take 2 (drop 6 b)) = take-add 4 4 b
-        ∙ ap (λ (xs : List ℕ). take 4 b ++ xs) (take-add 2 2 (drop 4 b) ∙ ap (λ (xs : List ℕ). take 2 (drop 4 b) ++ take 2 xs) (drop-drop 2 4 b)) in
+    ∙ ap (λ (xs : List ℕ). take 4 b ++ xs) (take-add 2 2 (drop 4 b) ∙ ap (λ (xs : List ℕ). take 2 (drop 4 b) ++ take 2 xs) (drop-drop 2 4 b)) in
     three (codes "DCT1") (to_be_bytes w16 (short_at b 4)) (to_be_bytes w16 (short_at b 6)) (take 4 b) (take 2 (drop 4 b)) (take 2 (drop 6 b)) magic
-        (short_spelled b 4 fits (omega arith)) (short_spelled b 6 fits (omega arith)) ∙ sym parts
+    (short_spelled b 4 fits (omega arith)) (short_spelled b 6 fits (omega arith)) ∙ sym parts
 
 -- the bytes after them
 body_spelled : (b : List ℕ) (count : ℕ) → IsBytes b → length b ≡ due_length count → flat_map word_bytes (words_at b count) ≡ drop 8 b

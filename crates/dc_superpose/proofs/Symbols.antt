@@ -31,7 +31,7 @@ number_in_piece b at l lt =
 pub word_in_piece : (b : List ℕ) (at : ℕ) → word_at (take 64 (drop at b)) 0 ≡ word_at b at
 word_in_piece b at = word_of-same _ _ (λ l lt. number_in_piece b at l lt)
 
--- symbol l of the word that stands at a place
+-- symbol l of the word at a place
 pub symbol-word_at : (b : List ℕ) (at l : ℕ) → l < 16 → get_or (word_at b at) l 0 ≡ number_at b (at + 4 * l)
 symbol-word_at b at l lt = symbol-word_of (λ l. number_at b (at + 4 * l)) l lt
 
@@ -46,7 +46,7 @@ err_where_some numbers (Some l) fault e =
     let is : made ≡ fault = cc in
     (ap (λ (f : SymFault). Some f.symbol) is, subst (λ (f : SymFault). get_or numbers f.symbol 0 ≡ f.seen) is refl)
 
--- a piece that is a word: the word that stands there, and good symbols
+-- a piece that is a word: the word at its place, and good symbols
 pub word_read : (b : List ℕ) (at n : ℕ) (w : List ℕ) → n ≡ 64 → Ok w ≡ word_of_bytes (take n (drop at b)) → (w ≡ word_at b at) × ((l : ℕ) → l < 16 → number_at b (at + 4 * l) ≤ 65536)
 word_read b at n w wide e =
     let e' : Ok w ≡ word_of_bytes (take 64 (drop at b)) = rw wide at e in
@@ -88,7 +88,7 @@ pub words_are_read : (b : List ℕ) (count : ℕ) → FirstAreSymbols b (16 * co
 unfolding words_of
 words_are_read b count good =
     rw (none_where_small (symbols_at b (16 * count)) (λ k lt. let lt' : k < 16 * count = omega (arith, length-symbols_at b (16 * count)) in rw (symbol-symbols_at b (16 * count) k lt')
-        (good.small k lt'))) refl
+    (good.small k lt'))) refl
 
 pub first_is_told : (b : List ℕ) (count i l seen : ℕ) → i < count → l < 16 → number_at b (8 + 64 * i + 4 * l) ≡ seen → 65536 < seen → FirstAreSymbols b (16 * i)
     → ((k : ℕ) → k < l → number_at b (8 + 64 * i + 4 * k) ≤ 65536)

@@ -11,7 +11,7 @@ use Rattle.dc_superpose.specs.declared.fault.TranscriptFault.TheVariants.{Trunca
 abbrev pub due_length : ℕ → ℕ
 due_length count = 8 + 64 * count
 
--- where symbol s stands in a file
+-- the offset of symbol s in a file
 abbrev pub symbol_offset : ℕ → ℕ
 symbol_offset s = 8 + 4 * s
 

@@ -13,5 +13,7 @@ pub returns-in_default : goal.returns-in_default
 returns-in_default c =
     elim c.in_default.branch [
       | in_default-via-then-words-lt1 w ↦ no_words c.args.words.now (search (rules, tests))
-      | in_default-via-in-len1-up+else-eq w ↦ rw (texts-front c.args.words.now w.verb-item.result w.in-len1-up.len_at_least) (other_word (string_bytes (get_or c.args.words.now 0 w.verb-item.result)) (texts (take (length c.args.words.now - 1) (drop 1 c.args.words.now))) (rw (← w.verb-item.is, ← w.as_str.ensures.value) (sym w.if-eq.ensures)))
+      | in_default-via-in-len1-up+else-eq w ↦ rw (texts-front c.args.words.now w.verb-item.result w.in-len1-up.len_at_least)
+          (other_word (string_bytes (get_or c.args.words.now 0 w.verb-item.result)) (texts (take (length c.args.words.now - 1) (drop 1 c.args.words.now)))
+          (rw (← w.verb-item.is, ← w.as_str.ensures.value) (sym w.if-eq.ensures)))
     ]

@@ -24,7 +24,7 @@ loop-r-init c = record { sums = c.in_ok-sums.ensures.items; len = c.in_ok-sums.e
 pub sum-requires : goal.sum-requires
 sum-requires c =
     let length_is : length c.fill_words.new.words.items ≡ c.args.sizes.stations = ap length c.in-Ok.ensures.words.0
-        ∙ length-words_from c.args.b.now (c.loop-r.r * c.args.sizes.stations) c.args.sizes.stations in
+    ∙ length-words_from c.args.b.now (c.loop-r.r * c.args.sizes.stations) c.args.sizes.stations in
     omega (arith, length_is, c.requires.most_stations)
 
 pub returns-in-Err : goal.returns-in-Err
@@ -50,6 +50,12 @@ returns c =
     let t : ℕ = c.args.sizes.rounds in
     let end : c.loop-r.r ≡ c.args.sizes.rounds = omega arith in
     let good : FirstAreSymbols c.args.b.now (16 * (c.args.sizes.rounds * c.args.sizes.stations)) = subst
-        (λ (r : ℕ). FirstAreSymbols c.args.b.now (16 * (r * c.args.sizes.stations))) end c.loop-r.invariant.good in
-    rw (c.from_vec.ensures, c.loop-r.invariant.sums, end, words_are_read c.args.b.now
-        (c.args.sizes.rounds * c.args.sizes.stations) good, all_rounds c.args.b.now c.args.sizes.stations c.args.sizes.rounds) refl
+    (λ (r : ℕ). FirstAreSymbols c.args.b.now (16 * (r * c.args.sizes.stations))) end c.loop-r.invariant.good in
+    rw (
+      c.from_vec.ensures,
+      c.loop-r.invariant.sums,
+      end,
+      words_are_read c.args.b.now
+          (c.args.sizes.rounds * c.args.sizes.stations) good,
+      all_rounds c.args.b.now c.args.sizes.stations c.args.sizes.rounds,
+    ) refl
