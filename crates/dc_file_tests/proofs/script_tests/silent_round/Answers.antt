@@ -1,4 +1,4 @@
-use Rattle.std.proofs.Common.{ℕ, List, ◌×◌, ◌<◌, [], ◌∙◌, sym, subst, arith}
+use Rattle.std.proofs.Common.{ℕ, List, ◌<◌, [], ◌∙◌, sym, subst, arith}
 use Rattle.std.proofs.lemmas.List.Elements.{All-nil}
 use Rattle.dc_spec.specs.Words.{IsWord}
 use Rattle.dc_formats.specs.ScriptFile.{AreStationWords}
