@@ -1,4 +1,4 @@
-//! What a word makes of the current group.
+//! What a word shows of the current group.
 
 ghost use Rattle.std.specs.Prelude.{◌≡◌, ◌+◌, ◌<◌, ◌≤◌, IfOk, IfSome};
 ghost use Rattle.dc_spec.specs.Groups.{uneven_limb};
@@ -25,7 +25,7 @@ pub(crate) enum Answer {
     },
 }
 
-/// What its word makes of a group: its stations sent again where their numbers are at most the mean.
+/// What its word shows of a group: its stations sent again where their numbers are at most the mean.
 #[tactic(auto, unfolding(dc_station_rules::specs::Epochs::answered))]
 pub(crate) fn answer_to(whole: &RangedGroup, w: &Word) -> Result<Answer, BadWord>
     requires { 1 ≤ stations_of whole.now }

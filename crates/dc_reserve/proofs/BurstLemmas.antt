@@ -56,7 +56,7 @@ last-with_word words word = get_or-append_right words (word ∷ []) (length word
 carried-with_word : (words : List (List ℕ)) (word : List ℕ) → carried (with_word words word) ≡ carried words ++ word_limbs word
 carried-with_word words word = flat_map-append word_limbs words (word ∷ []) ∙ ap (λ (more : List ℕ). carried words ++ more) (append-nil (word_limbs word))
 
--- the bytes tell the length that the first word tells
+-- the bytes have the length of the first word
 told_carried : (words : List (List ℕ)) → 1 ≤ length words → told_length words ≡ short_at (carried words) 0
 unfolding fifteen
 told_carried [] le = absurd (omega arith)
@@ -134,7 +134,7 @@ bytes_so_far (Later left) bytes words keeps = keeps.2
 bytes_so_far (Whole size) bytes words keeps = absurd keeps
 bytes_so_far Broken bytes words keeps = absurd keeps
 
--- what one more word does: what is kept after it goes with all words, and the step tells what they are
+-- what one more word does: what is kept after it goes with all words, and the step shows what they are
 pub one_more : (phase : Phase) (bytes : List ℕ) (words : List (List ℕ)) (word : List ℕ) (step : BurstStep) (new : List ℕ) → IsGoing phase → FitsPhase phase bytes → IsKeptOf phase bytes words goes_on → burst_of words ≡ goes_on → Leads phase bytes word step new
     → IsKeptOf (burst_phase_after step word) new (with_word words word) (burst_of (with_word words word)) × StepShows step (burst_of (with_word words word))
 one_more phase bytes words word Goes new going fits keeps e leads =
