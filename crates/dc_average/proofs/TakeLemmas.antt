@@ -16,7 +16,7 @@ empty_first : (xs : List Ranged) → is_empty xs ≡ is_none (first xs)
 empty_first [] = refl
 empty_first (x ∷ xs) = refl
 
--- what is kept tells whether the epoch takes no further word
+-- whether the epoch takes no further word can be seen from what is kept
 over_kept : (epoch : Epoch) → is_done (state_of epoch) ≡ is_over epoch
 over_kept unbegun = refl
 over_kept (resolving t) = empty_first (from_open (items_of t)) ∙ ap is_none (sym (current-first t))

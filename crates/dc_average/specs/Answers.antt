@@ -68,7 +68,7 @@ abbrev pub step_with : List Ranged → Step
 step_with [] = Ended
 step_with (place ∷ rest) = Went
 
--- what a word leaves: after a fault nothing; else the groups that still wait, and the leaves that came out
+-- what a word leaves: after a fault nothing; else the groups that still wait, and the leaves that it gives
 abbrev pub LeftBy : Result Tree EpochFault → List Ranged → List Ranged → List Leaf → Step → Type 0
 LeftBy (Err fault) rest stack out step = (why : BadWord) × ((step ≡ Void why) × (fault ≡ epoch_fault_of why) × (stack ≡ []) × (out ≡ []))
 LeftBy (Ok tree) rest stack out step = (stack ≡ from_open (items_of tree ++ map a_group rest)) × (out ≡ leaves_in (items_of tree ++ map a_group rest)) × (step ≡ step_with stack)

@@ -1,4 +1,4 @@
-//! What an epoch asks for, and what its words make of it.
+//! What an epoch asks for, and what its words do to it.
 
 use dc_field::{BadGroup, BadSplit};
 
@@ -9,28 +9,28 @@ pub enum Ask {
     Root,
     /// The values of the current group that are at most its mean.
     AtMost { mean: u128 },
-    /// Nothing: the epoch ended or is void.
+    /// Nothing: the epoch is whole or void.
     Over,
 }
 
-/// What a word did.
+/// What a word did to the epoch.
 #[derive(Clone, Copy, Debug, PartialEq, Eq)]
 pub enum Step {
-    /// Another word is to come.
+    /// Another word is needed.
     Went,
-    /// All leaves have come out.
+    /// The epoch is whole: it has given all its leaves.
     Ended,
-    /// The word broke a check; leaves that came out before stay.
+    /// The word breaks a check. The leaves of earlier words stay valid.
     Void { why: BadWord },
 }
 
-/// The first check that a word broke.
+/// The first check that a word breaks.
 #[derive(Clone, Copy, Debug, PartialEq, Eq)]
 pub enum BadWord {
-    /// It is no group.
+    /// The word is not a group.
     Group { fault: BadGroup },
-    /// It is no part of the current group.
+    /// The word is a group, but not a part of the current one.
     Split { fault: BadSplit },
-    /// All stations of the current group sent again, and its count does not divide this limb (1 to 15) of so much.
+    /// All stations of the current group sent again, and its count does not divide its limb `l`, 1 to 15, which is `seen`.
     Uneven { l: u8, seen: u16 },
 }

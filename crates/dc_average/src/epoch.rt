@@ -1,4 +1,4 @@
-//! An epoch: words are taken one after the other, and leaves come out.
+//! An epoch: it takes words one after the other, and gives leaves.
 
 ghost use Rattle.std.specs.Prelude.{◌≡◌, ℕ, ◌+◌, ◌<◌, ◌≤◌, false, List, [], ◌∷◌, ◌++◌, IfNone, IfOk, IfSome, length, map, slice_get};
 ghost use Rattle.dc_spec.specs.Groups.{group_of};
@@ -19,7 +19,7 @@ use std::marker::Model;
 /// The greatest number of a value.
 const LAST_NUMBER: u128 = (1 << 120) - 1;
 
-/// An epoch; contracts see whether its root was received and the groups that wait for their words.
+/// An epoch. Contracts see whether its root was received, and the groups that wait for their words.
 #[derive(Drop)]
 pub struct Epoch {
     begun: bool,
@@ -49,7 +49,7 @@ impl Epoch {
         })
     }
 
-    /// An epoch before its root, whatever was taken. Takes no memory.
+    /// Begins a new epoch, before its root, whatever was taken.
     pub fn restart(&mut self)
         ensures { StandsFor self.new [] }
     {
@@ -72,7 +72,7 @@ impl Epoch {
         }
     }
 
-    /// Whether a station with this value, sent in the root, sends it in the next word.
+    /// Whether a station that sent this value in the root sends it in the next word.
     pub fn calls(&self, v: &Value) -> bool
         requires { is_done self.now ≡ false }
         ensures { (words : List (List ℕ)) → StandsFor self.now words →
@@ -87,7 +87,7 @@ impl Epoch {
         }
     }
 
-    /// Takes a word, and fills `out` with the leaves that come out at it. Takes no memory.
+    /// Takes a word, and fills `out` with the leaves that it gives, at most 256; those that were in it are removed.
     pub fn take(&mut self, w: &Word, out: &mut Leaves) -> Step
         requires { is_done self.old ≡ false }
         ensures stands { (words : List (List ℕ)) → StandsFor self.old words →
@@ -167,7 +167,7 @@ fn grow(stack: &mut Stack, answer: &Answer, out: &mut Leaves) -> Step
     }
 }
 
-/// Lets out the leaves of the groups of one station that stand on top.
+/// Moves the leaves of the groups of one station on top from the stack to the list.
 fn settle(stack: &mut Stack, out: &mut Leaves) -> Step
     requires { length out.old + stations_in stack.old ≤ 256 }
     ensures stack { stack.new ≡ from_open (map a_group stack.old) }

@@ -1,4 +1,4 @@
-//! Leaves: values that came out of an epoch.
+//! Leaves: the values that an epoch gives.
 
 ghost use Rattle.std.specs.Prelude.{◌≡◌, ◌<◌, ◌≤◌, [], ◌∷◌, ◌++◌, IfOk, length, slice_get};
 ghost use Rattle.dc_station_rules.specs.Epochs.{Leaf as leaf_record};
@@ -7,7 +7,7 @@ use dc_field::{NoMemory, Value};
 use std::alloc::Global;
 use std::marker::Model;
 
-/// A value that came out of an epoch; contracts see the record of its fields.
+/// A value that an epoch gives. Contracts see the record of its fields.
 #[derive(Clone, Copy, Debug)]
 pub struct Leaf {
     pub value: Value,
@@ -29,7 +29,7 @@ impl Model for Leaf {
     ghost inverse = { λ l. record { value = l.value; times = l.times; low = l.low; high = l.high } };
 }
 
-/// The leaves of one word, in the order in which they come out; contracts see their list.
+/// The leaves of one word, in order. Contracts see their list.
 #[derive(Drop)]
 pub struct Leaves {
     items: Vec<Leaf>,
@@ -47,7 +47,7 @@ impl Model for Leaves {
 }
 
 impl Leaves {
-    /// No leaves, and room for 256, the most that one word lets out.
+    /// No leaves, and room for 256, the most that one word gives.
     pub fn start(alloc: Global) -> Result<Leaves, NoMemory>
         ensures { IfOk result (λ leaves. leaves ≡ []) }
     {
@@ -70,14 +70,14 @@ impl Leaves {
         self.items[i]
     }
 
-    /// Takes all leaves out.
+    /// Removes all leaves.
     pub(crate) fn clear(&mut self)
         ensures { self.new ≡ [] }
     {
         self.items.clear();
     }
 
-    /// Puts a leaf at the end. Takes no memory.
+    /// Puts a leaf at the end, in the room that is reserved.
     pub(crate) fn push(&mut self, leaf: Leaf)
         requires { length self.old < 256 }
         ensures { self.new ≡ self.old ++ leaf ∷ [] }

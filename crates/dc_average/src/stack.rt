@@ -89,7 +89,7 @@ impl Stack {
         Ok(Stack { items })
     }
 
-    /// Takes all groups out.
+    /// Removes all groups.
     pub(crate) fn clear(&mut self)
         ensures { self.new ≡ [] }
     {
@@ -104,7 +104,7 @@ impl Stack {
         self.items.last().copied()
     }
 
-    /// Puts a group on top. Takes no memory.
+    /// Puts a group on top, in the room that is reserved.
     pub(crate) fn push(&mut self, item: RangedGroup)
         requires some { 1 ≤ stations_of item }
         requires room { stations_of item + stations_in self.old ≤ 256 }

@@ -33,7 +33,7 @@ told_by_limbs : (word : List ℕ) → short_at (word_limbs word) 0 ≡ short_at 
 unfolding fifteen
 told_by_limbs word = refl
 
--- bytes after others do not change the length that is told
+-- bytes after others do not change the length
 told_before : (bytes more : List ℕ) → 2 ≤ length bytes → short_at (bytes ++ more) 0 ≡ short_at bytes 0
 told_before bytes more le = ap₂ (λ (a b : ℕ). a * 256 + b) (get_or_append_left bytes more 0 0 (omega arith)) (get_or_append_left bytes more 0 1 (omega arith))
 

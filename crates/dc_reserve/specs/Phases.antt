@@ -12,21 +12,21 @@ use Rattle.dc_reserve.specs.declared.judge.BurstStep.TheVariants.{Goes, Message,
 use Rattle.dc_reserve.specs.declared.judge.Phase.{Phase}
 use Rattle.dc_reserve.specs.declared.judge.Phase.TheVariants.{First, Later, Whole, Broken}
 
--- the check that a word broke, in the protocol's terms
+-- the check that a word breaks, in the terms of the definitions
 abbrev pub burst_fault_of : BadBurst → BurstFault
 burst_fault_of (Count seen) = burst_count seen
 burst_fault_of (Limb l seen) = burst_limb l seen
 burst_fault_of (Length told words) = burst_length told words
 burst_fault_of (Padding at) = burst_padding at
 
--- further words are due
+-- further words are needed
 abbrev pub IsGoing : Phase → Type 0
 IsGoing First = Unit {0}
 IsGoing (Later left) = Unit {0}
 IsGoing (Whole size) = ⊥
 IsGoing Broken = ⊥
 
--- the bytes so far go with the phase: with those of the words that are due they are as many as the told length needs
+-- the bytes so far go with the phase: with those of the words that are due they are as many as their length bytes need
 abbrev pub FitsPhase : Phase → List ℕ → Type 0
 FitsPhase First bytes = bytes ≡ []
 FitsPhase (Later left) bytes = (1 ≤ left) × (15 ≤ length bytes) × (length bytes + 15 * left ≡ 15 * fragment_count (short_at bytes 0)) × (fragment_count (short_at bytes 0) ≤ 256)
@@ -40,14 +40,14 @@ count_allowed (Later left) count = count == left
 count_allowed (Whole size) count = false
 count_allowed Broken count = false
 
--- a first word tells a length that needs another count
+-- a first word has a length that needs another count
 abbrev pub first_length_fault : Phase → List ℕ → Option BurstFault
 first_length_fault First word = if fragment_count (short_at word 1) == word_count word then None else Some (burst_length (short_at word 1) (word_count word))
 first_length_fault (Later left) word = None
 first_length_fault (Whole size) word = None
 first_length_fault Broken word = None
 
--- the first check that a word breaks by itself: its count, its limbs, the length that it tells
+-- the first check that a word breaks by itself: its count, its limbs, its length
 abbrev pub own_fault : Phase → List ℕ → Option BurstFault
 own_fault phase word = option_or (if count_allowed phase (word_count word) then None else Some (burst_count (word_count word))) (option_or (limb_fault word) (first_length_fault phase word))
 
@@ -61,7 +61,7 @@ Leads phase bytes word Goes new = (own_fault phase word ≡ None) × (word_count
 Leads phase bytes word (Message size) new = (own_fault phase word ≡ None) × (word_count word ≡ 1) × (new ≡ bytes ++ word_limbs word) × (stray_byte new ≡ None) × (size ≡ short_at new 0)
 Leads phase bytes word (Void why) new = option_or (own_fault phase word) (if word_count word == 1 then option_map burst_padding (stray_byte (bytes ++ word_limbs word)) else None) ≡ Some (burst_fault_of why)
 
--- where a burst stands after a step at a word
+-- the phase of a burst after a step at a word
 abbrev pub burst_phase_after : BurstStep → List ℕ → Phase
 burst_phase_after Goes word = Later (word_count word - 1)
 burst_phase_after (Message size) word = Whole size

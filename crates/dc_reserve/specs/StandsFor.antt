@@ -8,7 +8,7 @@ use Rattle.dc_reserve.specs.declared.judge.Phase.{Phase}
 use Rattle.dc_reserve.specs.declared.judge.Phase.TheVariants.{First, Later, Whole, Broken}
 use Rattle.dc_reserve.specs.Phases.{IsGoing, burst_fault_of}
 
--- what is kept of a burst: where it stands, and the bytes of its words
+-- what is kept of a burst: its phase, and the bytes of its words
 pub record State : Type 0 where
   pub phase : Phase
   pub bytes : List ℕ
@@ -25,7 +25,7 @@ IsKeptOf phase bytes words burst = ⊥
 pub record StandsFor (state : State) (words : List (List ℕ)) : Type 0 where
   pub kept : IsKeptOf state.phase state.bytes words (burst_of words)
 
--- a step tells what words are as a burst
+-- a step shows what words are as a burst
 abbrev pub StepShows : BurstStep → Burst → Type 0
 StepShows Goes burst = burst ≡ goes_on
 StepShows (Message size) burst = (message : List ℕ) × ((burst ≡ gave message) × (length message ≡ size))
@@ -38,7 +38,7 @@ IsWhole (Later left) = ⊥
 IsWhole (Whole size) = Unit {0}
 IsWhole Broken = ⊥
 
--- after a step further words are due, or the message is there, or neither
+-- after a step further words are needed, or the message is there, or neither
 abbrev pub IsAfter : BurstStep → Phase → Type 0
 IsAfter Goes phase = IsGoing phase
 IsAfter (Message size) phase = IsWhole phase

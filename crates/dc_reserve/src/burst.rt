@@ -1,4 +1,4 @@
-//! A burst: words are taken one after the other, and a message comes out.
+//! A burst: it takes words one after the other, and gives a message.
 
 ghost use Rattle.std.specs.Prelude.{◌≡◌, ℕ, ◌+◌, ◌*◌, ◌≤◌, List, [], ◌∷◌, ◌++◌, IfOk, length};
 ghost use Rattle.dc_station_rules.specs.Bursts.{burst_of, gave};
@@ -10,7 +10,7 @@ use dc_field::{NoMemory, Word};
 use std::alloc::Global;
 use std::marker::Model;
 
-/// A burst; contracts see where it stands and the bytes of its words.
+/// A burst. Contracts see its phase and the bytes of its words.
 #[derive(Drop)]
 pub struct Burst {
     phase: Phase,
@@ -42,7 +42,7 @@ impl Burst {
         })
     }
 
-    /// A burst before its first word, whatever was taken. Takes no memory.
+    /// Begins a new burst, before its first word, whatever was taken.
     pub fn restart(&mut self)
         ensures stands { StandsFor self.new [] }
         ensures going { IsGoing self.new.phase }
@@ -51,7 +51,7 @@ impl Burst {
         self.bytes.clear();
     }
 
-    /// Takes a word. Takes no memory.
+    /// Takes a word. The burst must still need one.
     pub fn take(&mut self, w: &Word) -> BurstStep
         requires { IsGoing self.old.phase }
         ensures stands { (words : List (List ℕ)) → StandsFor self.old words →
@@ -78,7 +78,7 @@ impl Burst {
     }
 }
 
-/// Where a burst stands after a step at this word.
+/// The phase of a burst after a step at this word.
 fn burst_phase_after(step: BurstStep, w: &Word) -> Phase
     requires { MayFollow step w.now }
     ensures { result ≡ burst_phase_after step w.now }

@@ -12,7 +12,7 @@ use dc_field::Word;
 /// What a word does to a burst.
 #[derive(Clone, Copy, Debug, PartialEq, Eq)]
 pub enum BurstStep {
-    /// More words are due.
+    /// More words are needed.
     Goes,
     /// The burst is whole; its message has this many bytes.
     Message { length: u16 },
@@ -23,22 +23,22 @@ pub enum BurstStep {
 /// The first check that a word of a burst breaks.
 #[derive(Clone, Copy, Debug, PartialEq, Eq)]
 pub enum BadBurst {
-    /// The count is not 1 to 256, or not one less than in the word before.
+    /// The count `seen` is not 1 to 256, or not one less than in the word before.
     Count { seen: u32 },
-    /// This limb, from 1, is above 255.
+    /// Limb `l`, from 1, is above 255.
     Limb { l: u8, seen: u32 },
-    /// A message of the told length needs another number of words.
+    /// A message of `told` bytes, as its length bytes say, needs another number of words than `words`.
     Length { told: u16, words: u16 },
-    /// The first byte past the message that is not 0, by its index in all bytes of the burst.
+    /// The first byte past the message that is not 0; `at` is its index, from 0, in all bytes of the burst.
     Padding { at: u16 },
 }
 
-/// Where a burst stands between two words.
+/// The phase of a burst between two words.
 #[derive(Clone, Copy, Debug)]
 pub(crate) enum Phase {
     /// Before its first word.
     First,
-    /// So many more words are due.
+    /// So many more words are needed.
     Later { left: u16 },
     /// It gave a message of so many bytes.
     Whole { length: u16 },
@@ -46,7 +46,7 @@ pub(crate) enum Phase {
     Broken,
 }
 
-/// Judges a word and puts its fifteen bytes after those before. Takes no memory.
+/// Judges a word and puts its fifteen bytes after those of the words before.
 pub(crate) fn judge(phase: Phase, bytes: &mut Vec<u8>, w: &Word) -> BurstStep
     requires going { IsGoing phase }
     requires fits { FitsPhase phase bytes.old.items }
@@ -87,7 +87,7 @@ fn fault(phase: Phase, w: &Word) -> Option<BadBurst>
     }
 }
 
-/// Whether a count may stand here.
+/// Whether a word may have this count.
 fn is_allowed(phase: Phase, count: u32) -> bool
     ensures { result ≡ count_allowed phase count }
 {
@@ -127,7 +127,7 @@ fn length_fault(phase: Phase, numbers: &[u32; 16]) -> Option<BadBurst>
     }
 }
 
-/// Puts the limbs of a word after the bytes, in room that is there.
+/// Puts the limbs of a word after the bytes, in the room that is reserved.
 fn push_limbs(bytes: &mut Vec<u8>, w: &Word)
     requires limbs { (l : ℕ) → l < 15 → slice_index w.now (l + 1) ≤ 255 }
     requires fits { length bytes.old.items + 15 ≤ 3840 }
@@ -140,7 +140,7 @@ fn push_limbs(bytes: &mut Vec<u8>, w: &Word)
     }
 }
 
-/// Puts a byte after the others, in room that is there.
+/// Puts a byte after the others, in the room that is reserved.
 fn push_byte(bytes: &mut Vec<u8>, byte: u8)
     requires fits { length bytes.old.items < 3840 }
     requires room { vec_capacity bytes.old ≡ 3840 }
@@ -150,7 +150,7 @@ fn push_byte(bytes: &mut Vec<u8>, byte: u8)
     bytes.push_reserved(byte);
 }
 
-/// The length that the first two bytes tell.
+/// The length that the first two bytes give.
 fn announced_length(bytes: &[u8]) -> u16
     requires { 2 ≤ length bytes.now }
     ensures { result ≡ short_at bytes.now 0 }

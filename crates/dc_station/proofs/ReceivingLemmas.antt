@@ -22,7 +22,7 @@ use Rattle.dc_station.specs.StandsFor.{IsOfLast}
 use Rattle.dc_station.proofs.FieldLemmas.{fields_from-zero}
 use Rattle.dc_station_rules.proofs.StationSteps.{reserves, burst_goes_on, BurstEnds, burst_ends, epoch_takes, with_ended, since_then, logs_fit}
 
--- a stream with nothing to say
+-- an empty stream
 abbrev nothing : Stream
 nothing = record { shorts = []; longs = []; coins = [] }
 

@@ -1,4 +1,4 @@
-//! Where a station stands, and how much it still has to say.
+//! What the next word of a station is for, and how much it still has to send.
 
 /// What the next word is for.
 #[derive(Clone, Copy, Debug, PartialEq, Eq)]
