@@ -2,7 +2,7 @@
 
 ghost use Rattle.std.specs.Prelude.{◌≡◌, ◌+◌, ◌<◌, ◌≤◌, IfOk, IfSome};
 ghost use Rattle.dc_spec.specs.Groups.{uneven_limb};
-ghost use Rattle.dc_station_rules.specs.Epochs.{answered, judged_alike, mean_of, split_at};
+ghost use Rattle.dc_station_rules.specs.Epochs.{split_by, equal_or_fault, mean_of, two_parts};
 ghost use Rattle.dc_average.specs.Stacks.{stations_of};
 ghost use Rattle.dc_average.specs.Answers.{IsOfSome, stations_of_answer, answer_result_of, leaf_result_of};
 
@@ -26,10 +26,10 @@ pub(crate) enum Answer {
 }
 
 /// What its word shows of a group: its stations sent again where their numbers are at most the mean.
-#[tactic(auto, unfolding(dc_station_rules::specs::Epochs::answered))]
+#[tactic(auto, unfolding(dc_station_rules::specs::Epochs::split_by))]
 pub(crate) fn answer_to(whole: &RangedGroup, w: &Word) -> Result<Answer, BadWord>
     requires { 1 ≤ stations_of whole.now }
-    ensures answer { answer_result_of result ≡ answered whole.now.group whole.now.low whole.now.high w.now }
+    ensures answer { answer_result_of result ≡ split_by whole.now.group whole.now.low whole.now.high w.now }
     ensures counts { IfOk result (λ answer. stations_of_answer answer ≡ stations_of whole.now) }
     ensures some { IfOk result IsOfSome }
 {
@@ -54,7 +54,7 @@ pub(crate) fn answer_to(whole: &RangedGroup, w: &Word) -> Result<Answer, BadWord
 fn alike(whole: &RangedGroup) -> Result<Leaf, BadWord>
     requires { 1 ≤ stations_of whole.now }
     ensures { leaf_result_of result
-        ≡ judged_alike whole.now.group whole.now.low whole.now.high (uneven_limb whole.now.group) }
+        ≡ equal_or_fault whole.now.group whole.now.low whole.now.high (uneven_limb whole.now.group) }
 {
     match first_uneven(&whole.group) {
         Some(i) => Err(BadWord::Uneven {
@@ -66,7 +66,7 @@ fn alike(whole: &RangedGroup) -> Result<Leaf, BadWord>
 }
 
 /// The place of the first limb that the count does not divide.
-#[tactic(auto, unfolding(dc_spec::specs::Groups::first_place))]
+#[tactic(auto, unfolding(dc_spec::specs::Groups::first_limb_where))]
 fn first_uneven(group: &Group) -> Option<usize>
     requires { 1 ≤ group.now.count }
     ensures place { result ≡ uneven_limb group.now }
@@ -81,7 +81,7 @@ fn split(whole: &RangedGroup, left: Group, right: Group) -> Answer
     requires right { 1 ≤ right.count }
     requires whole { left.count + right.count ≡ stations_of whole.now }
     ensures parts { answer_result_of (Ok result)
-        ≡ Ok (split_at (mean_of whole.now.group) whole.now.low whole.now.high left right) }
+        ≡ Ok (two_parts (mean_of whole.now.group) whole.now.low whole.now.high left right) }
     ensures counts { stations_of_answer result ≡ stations_of whole.now }
     ensures some { IsOfSome result }
 {

@@ -6,12 +6,12 @@ use Rattle.std.proofs.lemmas.Bool.Decides.{nat_tests}
 use Rattle.std.proofs.lemmas.List.{length-take, length-drop, get_or-take, get_or-drop, get_or_past, get_or-map, length-map, ext_get_or}
 use Rattle.std.proofs.lemmas.List.FromFn.{fill_by_all, length-map-range_with_len, get_or-map-range_with_len}
 use Rattle.dc_spec.specs.Values.{number_of, fifteen, word_count, word_limbs}
-use Rattle.dc_spec.specs.Groups.{first_place, judged_group, group_of}
-use Rattle.dc_spec.proofs.GroupLemmas.{first_place-none}
+use Rattle.dc_spec.specs.Groups.{first_limb_where, group_or_fault, group_of}
+use Rattle.dc_spec.proofs.GroupLemmas.{first_limb-none}
 use Rattle.dc_field.proofs.Digits.{number_of-sum}
 
 -- a word with a count of at most 256 is a group or not by its limbs
-judged_by : (w limbs : List ℕ) (place : Option ℕ) → limbs ≡ word_limbs w → ltb 256 (word_count w) ≡ false → place ≡ first_place (λ k. ltb (255 * word_count w) (get_or limbs k 0)) → judged_group (record { count = word_count w; limbs = limbs }) place ≡ group_of w
+judged_by : (w limbs : List ℕ) (place : Option ℕ) → limbs ≡ word_limbs w → ltb 256 (word_count w) ≡ false → place ≡ first_limb_where (λ k. ltb (255 * word_count w) (get_or limbs k 0)) → group_or_fault (record { count = word_count w; limbs = limbs }) place ≡ group_of w
 unfolding group_of
 judged_by w limbs place same most is = rw (most, is, same) refl
 
@@ -23,7 +23,7 @@ limbs_slice w sixteen =
     (λ k lt. rw (get_or-take 15 (drop 1 w) k 0 lt, get_or-drop) (ap (λ (n : ℕ). get_or w n 0) (omega arith)))
 
 -- a word of sixteen symbols with a count of at most 256 is a group or not by the first of the fifteen limbs that is too high
-pub judged-group_of : (w : List ℕ) (place : Option ℕ) → length w ≡ 16 → word_count w ≤ 256 → place ≡ first_place (λ k. ltb (255 * word_count w) (get_or (take 15 (drop 1 w)) k 0)) → judged_group (record { count = word_count w; limbs = take 15 (drop 1 w) }) place ≡ group_of w
+pub judged-group_of : (w : List ℕ) (place : Option ℕ) → length w ≡ 16 → word_count w ≤ 256 → place ≡ first_limb_where (λ k. ltb (255 * word_count w) (get_or (take 15 (drop 1 w)) k 0)) → group_or_fault (record { count = word_count w; limbs = take 15 (drop 1 w) }) place ≡ group_of w
 judged-group_of w place sixteen most is = judged_by w (take 15 (drop 1 w)) place (limbs_slice w sixteen) (grind (arith, nat_tests)) is
 
 -- a list whose first fifteen numbers are within a bound
@@ -34,13 +34,13 @@ each_below xs b len each i = elim (cases_lt i 15) [
 ]
 
 -- where no limb is above a bound, each is within it
-pub limbs_within : (xs : List ℕ) (b : ℕ) → length xs ≡ 15 → None ≡ first_place (λ i. ltb b (get_or xs i 0)) → (i : ℕ) → get_or xs i 0 ≤ b
-limbs_within xs b len none = each_below xs b (omega arith) (λ i lt. ltb-false b (get_or xs i 0) (first_place-none (λ k. ltb b (get_or xs k 0)) (sym none) i lt))
+pub limbs_within : (xs : List ℕ) (b : ℕ) → length xs ≡ 15 → None ≡ first_limb_where (λ i. ltb b (get_or xs i 0)) → (i : ℕ) → get_or xs i 0 ≤ b
+limbs_within xs b len none = each_below xs b (omega arith) (λ i lt. ltb-false b (get_or xs i 0) (first_limb-none (λ k. ltb b (get_or xs k 0)) (sym none) i lt))
 
 -- where no limb is unfit, no part is above the whole, and no difference above the bound
-pub limbs_fit : (xs ys : List ℕ) (b : ℕ) → length xs ≡ 15 → length ys ≡ 15 → None ≡ first_place (λ i. ltb (get_or xs i 0) (get_or ys i 0) || ltb b (get_or xs i 0 - get_or ys i 0)) → ((i : ℕ) → get_or ys i 0 ≤ get_or xs i 0) × ((i : ℕ) → get_or xs i 0 - get_or ys i 0 ≤ b)
+pub limbs_fit : (xs ys : List ℕ) (b : ℕ) → length xs ≡ 15 → length ys ≡ 15 → None ≡ first_limb_where (λ i. ltb (get_or xs i 0) (get_or ys i 0) || ltb b (get_or xs i 0 - get_or ys i 0)) → ((i : ℕ) → get_or ys i 0 ≤ get_or xs i 0) × ((i : ℕ) → get_or xs i 0 - get_or ys i 0 ≤ b)
 limbs_fit xs ys b lx ly none =
-    let at = λ (i : ℕ) (lt : i < 15). or_parts _ _ (first_place-none (λ k. ltb (get_or xs k 0) (get_or ys k 0) || ltb b (get_or xs k 0 - get_or ys k 0)) (sym none) i lt) in (
+    let at = λ (i : ℕ) (lt : i < 15). or_parts _ _ (first_limb-none (λ k. ltb (get_or xs k 0) (get_or ys k 0) || ltb b (get_or xs k 0 - get_or ys k 0)) (sym none) i lt) in (
       λ i. elim (cases_lt i 15) [
         | inl lt ↦ ltb-false (get_or xs i 0) (get_or ys i 0) (at i lt).0
         | inr le ↦ rw (get_or_past ys i 0 (omega arith)) (omega arith)

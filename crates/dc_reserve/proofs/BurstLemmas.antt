@@ -8,7 +8,7 @@ use Rattle.std.proofs.lemmas.List.{get_or_append_left, get_or-append_right, appe
 use Rattle.std.proofs.lemmas.Grind.{flat_map-append}
 use Rattle.dc_spec.specs.Bytes.{short_at}
 use Rattle.dc_spec.specs.Values.{fifteen, word_count, word_limbs}
-use Rattle.dc_station_rules.specs.Bursts.{BurstFault, burst_padding, word_at, carried, told_length, padding_fault, limb_fault, fault_at, burst_faults, Burst, goes_on, gave, void_burst, carried_message, judged_burst, burst_of}
+use Rattle.dc_station_rules.specs.Bursts.{BurstFault, burst_padding, nth_word, carried, stated_length, padding_fault, limb_fault, fault_at, burst_faults, Burst, goes_on, gave, void_burst, carried_message, burst_by_faults, burst_of}
 use Rattle.dc_station_rules.proofs.BurstFaults.{fault_at-append}
 use Rattle.dc_station_rules.proofs.Carried.{length-carried}
 use Rattle.dc_station_rules.proofs.MessageBursts.{broken-burst, clean-ends, clean-goes}
@@ -31,7 +31,7 @@ none_each f a zero e i lt = absurd (omega arith)
 none_each f a (suc n) e zero lt = let place : a ≡ a + 0 = omega arith in subst (λ k. f k ≡ None) place (cons_none (f a) _ e).0
 none_each f a (suc n) e (suc i) lt = let place : a + 1 + i ≡ a + suc i = omega arith in subst (λ k. f k ≡ None) place (none_each f (a + 1) n (cons_none (f a) _ e).1 i (omega arith))
 
-no_faults : (words : List (List ℕ)) (faults : List BurstFault) → judged_burst words faults ≡ goes_on → faults ≡ []
+no_faults : (words : List (List ℕ)) (faults : List BurstFault) → burst_by_faults words faults ≡ goes_on → faults ≡ []
 no_faults words [] e = refl
 no_faults words (fault ∷ faults) e = absurd cc
 
@@ -47,7 +47,7 @@ with_word words word = words ++ word ∷ []
 length-with_word : (words : List (List ℕ)) (word : List ℕ) → length (with_word words word) ≡ length words + 1
 length-with_word words word = length-append words (word ∷ [])
 
-last-with_word : (words : List (List ℕ)) (word : List ℕ) → word_at (with_word words word) (length words) ≡ word
+last-with_word : (words : List (List ℕ)) (word : List ℕ) → nth_word (with_word words word) (length words) ≡ word
 last-with_word words word = get_or-append_right words (word ∷ []) (length words) (length words) [] refl (omega arith) ∙ first
   where
     first : get_or (word ∷ []) (length words - length words) [] ≡ word
@@ -57,15 +57,15 @@ carried-with_word : (words : List (List ℕ)) (word : List ℕ) → carried (wit
 carried-with_word words word = flat_map-append word_limbs words (word ∷ []) ∙ ap (λ (more : List ℕ). carried words ++ more) (append-nil (word_limbs word))
 
 -- the bytes have the length of the first word
-told_carried : (words : List (List ℕ)) → 1 ≤ length words → told_length words ≡ short_at (carried words) 0
+told_carried : (words : List (List ℕ)) → 1 ≤ length words → stated_length words ≡ short_at (carried words) 0
 unfolding fifteen
 told_carried [] le = absurd (omega arith)
 told_carried (word ∷ words) le = refl
 
 -- the padding of all words
-padding_is : (words : List (List ℕ)) (i : ℕ) → length words ≡ i + 1 → padding_fault words i ≡ cond (word_count (word_at words i) == 1) (option_map burst_padding (stray_byte (carried words))) None
+padding_is : (words : List (List ℕ)) (i : ℕ) → length words ≡ i + 1 → padding_fault words i ≡ cond (word_count (nth_word words i) == 1) (option_map burst_padding (stray_byte (carried words))) None
 padding_is words i size =
-    let told : told_length words ≡ short_at (carried words) 0 = told_carried words (omega arith) in
+    let told : stated_length words ≡ short_at (carried words) 0 = told_carried words (omega arith) in
     let whole : take (i + 1) words ≡ words = take_all (i + 1) words (omega arith) in
     let long : 15 * (i + 1) ≡ length (carried words) = omega (arith, length-carried words) in
     rw (whole, told, long) refl
@@ -93,11 +93,11 @@ one_less a b = elim (eqb_tells a b) [
   | inr e ↦ rw e.0 (ne_eqb (a + 1) (b + 1) (λ same. e.1 (omega arith)))
 ]
 
-fault_of_later : (words : List (List ℕ)) (word : List ℕ) (left i : ℕ) → length words ≡ suc i → word_count (word_at words i) ≡ left + 1 → fault_at (with_word words word) (suc i) ≡ next_fault (Later left) (carried words) word
+fault_of_later : (words : List (List ℕ)) (word : List ℕ) (left i : ℕ) → length words ≡ suc i → word_count (nth_word words i) ≡ left + 1 → fault_at (with_word words word) (suc i) ≡ next_fault (Later left) (carried words) word
 unfolding fault_at
 fault_of_later words word left i size count =
-    let here : word_at (with_word words word) (suc i) ≡ word = subst (λ (k : ℕ). word_at (with_word words word) k ≡ word) size (last-with_word words word) in
-    let before : word_at (with_word words word) i ≡ word_at words i = get_or_append_left words (word ∷ []) [] i (omega arith) in
+    let here : nth_word (with_word words word) (suc i) ≡ word = subst (λ (k : ℕ). nth_word (with_word words word) k ≡ word) size (last-with_word words word) in
+    let before : nth_word (with_word words word) i ≡ nth_word words i = get_or_append_left words (word ∷ []) [] i (omega arith) in
     let padding : padding_fault (with_word words word) (suc i) ≡ cond (word_count word == 1) (option_map burst_padding (stray_byte (carried words ++ word_limbs word))) None
     = padding_is (with_word words word) (suc i) (omega (arith, length-with_word words word)) ∙ ap₂ (λ (w bytes : List ℕ). cond (word_count w == 1) (option_map burst_padding (stray_byte bytes)) None) here (carried-with_word words word) in
     rw (padding, here, before, count, one_less (word_count word) left) (or_apart _ (limb_fault word) None _)
@@ -122,7 +122,7 @@ clean_all words word e last i lt = elim (cases_lt i (length words)) [
 ]
 
 -- the last count
-last_count : (words : List (List ℕ)) (word : List ℕ) → word_count (word_at (with_word words word) (length (with_word words word) - 1)) ≡ word_count word
+last_count : (words : List (List ℕ)) (word : List ℕ) → word_count (nth_word (with_word words word) (length (with_word words word) - 1)) ≡ word_count word
 last_count words word =
     let place : length (with_word words word) - 1 ≡ length words = omega (arith, length-with_word words word) in
     rw place (ap word_count (last-with_word words word))
@@ -152,7 +152,7 @@ one_more phase bytes words word (Message size) new going fits keeps e leads =
     let stray : stray_byte (bytes ++ word_limbs word) ≡ None = sym (ap stray_byte leads.2) ∙ leads.3 in
     let fault : fault_at (with_word words word) (length words) ≡ None = fault_of_next phase bytes words word keeps ∙ (rw (leads.0, leads.1, stray) refl) in
     let is : burst_of (with_word words word) ≡ gave (carried_message (with_word words word)) = clean-ends (with_word words word) (clean_all words word e fault) (last_count words word ∙ leads.1) in
-    let told : told_length (with_word words word) ≡ size = told_carried (with_word words word) (omega (arith, length-with_word words word)) ∙ sym (ap (λ (b : List ℕ). short_at b 0) all) ∙ sym leads.4 in
+    let told : stated_length (with_word words word) ≡ size = told_carried (with_word words word) (omega (arith, length-with_word words word)) ∙ sym (ap (λ (b : List ℕ). short_at b 0) all) ∙ sym leads.4 in
     let message : carried_message (with_word words word) ≡ take size (drop 2 new) = ap₂ (λ (n : ℕ) (b : List ℕ). take n (drop 2 b)) told (sym all) in
     let after : After word new = rw leads.2 (after_word phase bytes word going fits leads.0) in
     let fit : short_at new 0 + 2 ≤ length new = message_fits word new after leads.1 in
