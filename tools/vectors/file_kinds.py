@@ -27,14 +27,14 @@ READ_KEYS = {
 }
 READ_STREAMS = {
     "std.specs.Fmt": "digits",
-    "dc_stream.specs.Reading": "stream_from_bytes",
+    "dc_stream.specs.Reading": "stream_fault=at_line stream_from_bytes",
     "dc_stream.specs.declared.fault.StreamKind.TheVariants": "NotText Word Order TooMany Number Hex Length",
 }
 READ_SCRIPTS = {
     "std.specs.Fmt": "digits",
     "dc_spec.specs.Words": "word_of",
     "dc_spec.specs.Scripts": "all_sum each",
-    "dc_script.specs.Reading": "script_from_bytes",
+    "dc_script.specs.Reading": "script_fault=at_line script_from_bytes",
     "dc_script.specs.declared.fault.ScriptKind.TheVariants": "NotText Header Form Round TooMany Misplaced Order Missing",
 }
 
@@ -185,7 +185,7 @@ def scripts2(case):
     if case["fault"] is not None:
         return [read_claim("script_from_bytes", READ_SCRIPTS, data, case["fault"], script)]
     turns = listing([turn(without_terms(one)) for one in case["script"]])
-    return [f"script_of {byte_list(case['bytes'])} ≡ Ok {turns}", f"script_text {turns} ≡ {byte_list(case['bytes'])}"]
+    return [f"script_from_bytes {byte_list(case['bytes'])} ≡ Ok {turns}", f"script_text {turns} ≡ {byte_list(case['bytes'])}"]
 
 
 def is_second_script(case):
