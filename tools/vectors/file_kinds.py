@@ -21,20 +21,20 @@ READ_TRANSCRIPTS = {
     "dc_superpose.specs.declared.fault.TranscriptFault.TheVariants": "Truncated Magic Stations Words Symbol Rest",
 }
 READ_KEYS = {
-    "dc_keyfile.specs.Reading": "pads_of padded pair_of pairs_of body_of sized keys_of",
+    "dc_keyfile.specs.Reading": "pads_of padded pair_of pairs_of keys_after_head keys_with_head keys_from_bytes",
     "dc_keyfile.specs.declared.fault.KeyFault.TheVariants": "Truncated Magic Version Stations Words TooLarge "
     "Pair=NoPair Order Symbol FirstSecondPad Rest",
 }
 READ_STREAMS = {
     "std.specs.Fmt": "digits",
-    "dc_stream.specs.Reading": "with_short with_long with_coin stream_with at_line stream_of",
+    "dc_stream.specs.Reading": "stream_fault=at_line stream_from_bytes",
     "dc_stream.specs.declared.fault.StreamKind.TheVariants": "NotText Word Order TooMany Number Hex Length",
 }
 READ_SCRIPTS = {
     "std.specs.Fmt": "digits",
     "dc_spec.specs.Words": "word_of",
     "dc_spec.specs.Scripts": "all_sum each",
-    "dc_script.specs.Reading": "at_line script_of",
+    "dc_script.specs.Reading": "script_fault=at_line script_from_bytes",
     "dc_script.specs.declared.fault.ScriptKind.TheVariants": "NotText Header Form Round TooMany Misplaced Order Missing",
 }
 
@@ -183,9 +183,9 @@ def scripts2(case):
     if is_second_script(case):
         return None
     if case["fault"] is not None:
-        return [read_claim("script_of", READ_SCRIPTS, data, case["fault"], script)]
+        return [read_claim("script_from_bytes", READ_SCRIPTS, data, case["fault"], script)]
     turns = listing([turn(without_terms(one)) for one in case["script"]])
-    return [f"script_of {byte_list(case['bytes'])} ≡ Ok {turns}", f"script_text {turns} ≡ {byte_list(case['bytes'])}"]
+    return [f"script_from_bytes {byte_list(case['bytes'])} ≡ Ok {turns}", f"script_text {turns} ≡ {byte_list(case['bytes'])}"]
 
 
 def is_second_script(case):
@@ -206,7 +206,7 @@ def seeds(case):
     data = bytes.fromhex(case["bytes"])
     if case["keys_fault"] is None and not all(map(has_ends, pairs_of(data), case["pairs"])):
         raise ValueError("the pads of the line are not those of its file")
-    return [read_claim("keys_of", READ_KEYS, data, case["keys_fault"], key_file)]
+    return [read_claim("keys_from_bytes", READ_KEYS, data, case["keys_fault"], key_file)]
 
 
 def is_second_key_file(case):
@@ -230,6 +230,8 @@ UNCHECKED = {
     "seeds": lambda case: "key files of version 2 are not defined yet" if is_second_key_file(case) else None,
 }
 
+OPENED_KEYS = "pads_of padded pair_of pairs_of keys_after_head keys_with_head keys_from_bytes"
+
 KINDS = {
     "transcripts_written": Kind("files", WRITING, "word_of", written("transcript"), 100),
     "keys_written": Kind("files", WRITING, "", written("keys"), 100),
@@ -240,9 +242,9 @@ KINDS = {
     "transcripts_read": Kind(
         "files", READ_TRANSCRIPTS, "word_of words_of body_of sized transcript_of", read("transcript", "transcript_of", READ_TRANSCRIPTS), 100
     ),
-    "keys_read": Kind("files", READ_KEYS, "pads_of padded pair_of pairs_of body_of sized keys_of", read("keys", "keys_of", READ_KEYS), 100),
-    "streams_read": Kind("files", READ_STREAMS, "digits with_short with_long with_coin stream_with", read("stream", "stream_of", READ_STREAMS), 100),
-    "scripts_read": Kind("files", READ_SCRIPTS, "digits word_of script_of", read("script", "script_of", READ_SCRIPTS), 100),
-    "scripts2": Kind("scripts2", {**READ_SCRIPTS, **WRITING}, "digits word_of script_of", scripts2, 50),
-    "seeds": Kind("seeds", READ_KEYS, "pads_of padded pair_of pairs_of body_of sized keys_of", seeds, 50),
+    "keys_read": Kind("files", READ_KEYS, OPENED_KEYS, read("keys", "keys_from_bytes", READ_KEYS), 100),
+    "streams_read": Kind("files", READ_STREAMS, "digits stream_from_bytes", read("stream", "stream_from_bytes", READ_STREAMS), 100),
+    "scripts_read": Kind("files", READ_SCRIPTS, "digits word_of script_from_bytes", read("script", "script_from_bytes", READ_SCRIPTS), 100),
+    "scripts2": Kind("scripts2", {**READ_SCRIPTS, **WRITING}, "digits word_of script_from_bytes", scripts2, 50),
+    "seeds": Kind("seeds", READ_KEYS, OPENED_KEYS, seeds, 50),
 }

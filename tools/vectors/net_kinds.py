@@ -11,7 +11,7 @@ GRAPHS = {
 }
 HUBS = {
     "dc_spec.specs.Words": "word_of",
-    "dc_hub_rules.specs.Hubs": "answers round_start waiting complete no_station over old ahead repeated",
+    "dc_hub_rules.specs.Hubs": "replies round_start waiting complete no_station over old ahead repeated",
 }
 NETS = {
     "dc_spec.specs.Entries": "short long",
@@ -78,8 +78,8 @@ def arrival(item):
     return record(station=item["station"], round=item["round"], word=word(item["word"]))
 
 
-def answer(item):
-    """The hub's answer to an arrival."""
+def reply(item):
+    """The hub's reply to an arrival."""
     if "complete" in item:
         return f"(complete {word(item['complete'])})"
     if "waiting" in item:
@@ -92,9 +92,9 @@ def answer(item):
 
 
 def hubs(line):
-    """The hub's answers to all arrivals."""
+    """The hub's replies to all arrivals."""
     arrivals = listing([arrival(one) for one in line["steps"]])
-    return [f"answers {line['stations']} {line['rounds']} {arrivals} ≡ {listing([answer(one) for one in line['steps']])}"]
+    return [f"replies {line['stations']} {line['rounds']} {arrivals} ≡ {listing([reply(one) for one in line['steps']])}"]
 
 
 def runs(line):

@@ -11,8 +11,8 @@ HOMES = {
     "dc_spec.specs.Entries": "Entry short long Stream",
     "dc_station_rules.specs.Bursts": "Burst goes_on gave void_burst burst_count burst_limb burst_length burst_padding "
     "burst_of fragments",
-    "dc_station_rules.specs.Epochs": "Epoch void_epoch Leaf EpochFault no_group no_part uneven Asked for_root "
-    "for_at_most for_nothing epoch_of leaves_at asked is_over",
+    "dc_station_rules.specs.Epochs": "Epoch void_epoch Leaf EpochFault no_group no_part uneven for_root "
+    "for_at_most for_nothing epoch_of leaves_at request_after is_over",
     "dc_station_rules.specs.Cycles": "Place at_reservation in_burst in_epoch place_of",
     "dc_station_rules.specs.Stations": "log_of sent_of pending_counts plain_word",
     "dc_station_rules.proofs.Computing": "computing",
@@ -83,7 +83,7 @@ def bursts(case):
     return claims
 
 
-def asked(item):
+def request(item):
     """What the next word is asked for."""
     if item == "root":
         return "for_root"
@@ -113,11 +113,11 @@ def epochs(case):
         before, now = words(case["words"][:k]), words(case["words"][: k + 1])
         why = f"Some {epoch_fault(step['why'])}" if step["step"] == "void" else "None"
         over = "false" if step["step"] == "went" else "true"
-        claims.append(f"asked (epoch_of {before}) ≡ {asked(step['asked'])}")
+        claims.append(f"request_after (epoch_of {before}) ≡ {request(step['asked'])}")
         claims.append(f"leaves_at {before} {word(case['words'][k])} ≡ {listing([leaf(item) for item in step['leaves']])}")
         claims.append(f"cause_of (epoch_of {now}) ≡ {why}")
         claims.append(f"is_over (epoch_of {now}) ≡ {over}")
-        claims.append(f"asked (epoch_of {now}) ≡ {asked(step['ask'])}")
+        claims.append(f"request_after (epoch_of {now}) ≡ {request(step['ask'])}")
     return claims
 
 
