@@ -17,7 +17,7 @@ WRITING = {
 }
 READ_TRANSCRIPTS = {
     "dc_spec.specs.Words": "word_of",
-    "dc_superpose.specs.Reading": "words_of body_of sized transcript_from_bytes",
+    "dc_superpose.specs.Reading": "words_of body_of sized transcript_of",
     "dc_superpose.specs.declared.fault.TranscriptFault.TheVariants": "Truncated Magic Stations Words Symbol Rest",
 }
 READ_KEYS = {
@@ -230,6 +230,8 @@ UNCHECKED = {
     "seeds": lambda case: "key files of version 2 are not defined yet" if is_second_key_file(case) else None,
 }
 
+OPENED_KEYS = "pads_of padded pair_of pairs_of keys_after_head keys_with_head keys_from_bytes"
+
 KINDS = {
     "transcripts_written": Kind("files", WRITING, "word_of", written("transcript"), 100),
     "keys_written": Kind("files", WRITING, "", written("keys"), 100),
@@ -238,11 +240,11 @@ KINDS = {
     "images_written": Kind("files", WRITING, "digits", written("perm"), 100),
     "wanted_written": Kind("files", WRITING, "word_of", written("wanted"), 100),
     "transcripts_read": Kind(
-        "files", READ_TRANSCRIPTS, "word_of words_of body_of sized transcript_from_bytes", read("transcript", "transcript_from_bytes", READ_TRANSCRIPTS), 100
+        "files", READ_TRANSCRIPTS, "word_of words_of body_of sized transcript_of", read("transcript", "transcript_of", READ_TRANSCRIPTS), 100
     ),
-    "keys_read": Kind("files", READ_KEYS, "pads_of padded pair_of pairs_of keys_after_head keys_with_head keys_from_bytes", read("keys", "keys_from_bytes", READ_KEYS), 100),
+    "keys_read": Kind("files", READ_KEYS, OPENED_KEYS, read("keys", "keys_from_bytes", READ_KEYS), 100),
     "streams_read": Kind("files", READ_STREAMS, "digits stream_from_bytes", read("stream", "stream_from_bytes", READ_STREAMS), 100),
     "scripts_read": Kind("files", READ_SCRIPTS, "digits word_of script_from_bytes", read("script", "script_from_bytes", READ_SCRIPTS), 100),
     "scripts2": Kind("scripts2", {**READ_SCRIPTS, **WRITING}, "digits word_of script_from_bytes", scripts2, 50),
-    "seeds": Kind("seeds", READ_KEYS, "pads_of padded pair_of pairs_of keys_after_head keys_with_head keys_from_bytes", seeds, 50),
+    "seeds": Kind("seeds", READ_KEYS, OPENED_KEYS, seeds, 50),
 }

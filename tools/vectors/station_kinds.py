@@ -83,7 +83,7 @@ def bursts(case):
     return claims
 
 
-def asked(item):
+def request(item):
     """What the next word is asked for."""
     if item == "root":
         return "for_root"
@@ -113,11 +113,11 @@ def epochs(case):
         before, now = words(case["words"][:k]), words(case["words"][: k + 1])
         why = f"Some {epoch_fault(step['why'])}" if step["step"] == "void" else "None"
         over = "false" if step["step"] == "went" else "true"
-        claims.append(f"request_after (epoch_of {before}) ≡ {asked(step['asked'])}")
+        claims.append(f"request_after (epoch_of {before}) ≡ {request(step['asked'])}")
         claims.append(f"leaves_at {before} {word(case['words'][k])} ≡ {listing([leaf(item) for item in step['leaves']])}")
         claims.append(f"cause_of (epoch_of {now}) ≡ {why}")
         claims.append(f"is_over (epoch_of {now}) ≡ {over}")
-        claims.append(f"request_after (epoch_of {now}) ≡ {asked(step['ask'])}")
+        claims.append(f"request_after (epoch_of {now}) ≡ {request(step['ask'])}")
     return claims
 
 
