@@ -42,7 +42,7 @@ pub product_small : (x y : ℕ) → x ≤ 65536 → y ≤ 65536 → x * y ≤ 42
 product_small x y h k = grind arith
 
 -- a pad of a piece of the pads
-pad_in_piece : (pads : List ℕ) (n from k : ℕ) → k < n → get_or (take n (drop from pads)) k 0 ≡ get_or pads (from + k) 0
+pub pad_in_piece : (pads : List ℕ) (n from k : ℕ) → k < n → get_or (take n (drop from pads)) k 0 ≡ get_or pads (from + k) 0
 pad_in_piece pads n from k lt = get_or-take n (drop from pads) k 0 lt ∙ get_or-drop from pads k 0
 
 -- a total with the product of one symbol more

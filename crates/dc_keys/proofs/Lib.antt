@@ -1,3 +1,4 @@
+pub mod Histories
 pub mod KeySums
 mod SignedSums
 pub mod StationKeys

@@ -5,7 +5,7 @@ use Rattle.std.proofs.Math.Nat.{mod-mod, mod-add-mod, add-mod-mod}
 use Rattle.std.proofs.lemmas.Bool.{cases_lt}
 use Rattle.std.proofs.lemmas.Nat.{mul-mod_first}
 use Rattle.std.proofs.lemmas.List.{get_or_past}
-use Rattle.std.proofs.lemmas.List.FromFn.{get_or-map-range_with_len}
+use Rattle.std.proofs.lemmas.List.FromFn.{get_or-map-range_with_len, length-map-range_with_len}
 use Rattle.std.proofs.lemmas.List.Sums.{sum_by-cons}
 use Rattle.std.proofs.lemmas.List.Elements.{All-filter, All-weaker}
 use Rattle.dc_spec.specs.Words.{word_sub}
@@ -14,7 +14,7 @@ use Rattle.dc_spec.specs.Pads.{Pair, Keys}
 use Rattle.dc_key_rules.specs.PairKeys.{symbols, key_symbol, key_word, key_sum, key_part}
 use Rattle.dc_formats.specs.KeyFile.{IsPair, IsKeys}
 use Rattle.dc_keys.specs.Pads.{IsPadded}
-use Rattle.dc_keys.specs.StationPads.{StationPads, signed_pads, station_pads, station_key}
+use Rattle.dc_keys.specs.StationPads.{StationPads, signed_pad, signed_pads, station_pads, station_key}
 use Rattle.dc_keys.proofs.SignedSums.{sum_same, sum_same_mod, products_of_sums, sums_of_products, lacks, products_make_up, minus_mod}
 
 -- pad n of the pairs that are added, minus that of the pairs that are subtracted
@@ -110,6 +110,11 @@ keys_by_pads plus minus words h are room = word_of-same _ _ (λ l lt. signed_sym
 -- pairs of a key file have pads for its words
 pub IsPadded-from_IsKeys : (keys : Keys) → IsKeys keys → All (IsPadded keys.words) keys.pairs
 IsPadded-from_IsKeys keys are = All-weaker (IsPair keys.stations keys.words) (IsPadded keys.words) (λ p is. record { first_pads = is.first_pads; second_pads = is.second_pads; first_symbols = is.first_symbols; second_symbols = is.second_symbols }) keys.pairs are.are_pairs
+
+-- sixteen pads a word
+pub length-signed_pads : (pads : Pair → List ℕ) (pairs : List Pair) (me words : ℕ) → length (signed_pads pads pairs me words) ≡ 16 * words
+unfolding signed_pads
+length-signed_pads pads pairs me words = length-map-range_with_len (signed_pad pads pairs me) 0 (16 * words)
 
 -- the key by summed pads is the signed sum of the keys
 pub station_key-key_part : (keys : Keys) (me : ℕ) (h : List (List ℕ)) → IsKeys keys → length h < keys.words → station_key (station_pads keys me) h ≡ key_part keys.pairs me h
