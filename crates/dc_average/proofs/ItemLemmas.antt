@@ -102,13 +102,15 @@ graft-here (Err fault) = refl
 graft-here (Ok tree) = (tree, (refl, sym (append-nil (items_of tree))))
 
 -- an answer put into the left part of a tree
-graft-left : (made : Result Tree EpochFault) (right : Tree) (grown other : Option (Result Tree EpochFault)) (before after : List Item) → Grafted made grown before after → Grafted made (option_or (option_map (with_left right) grown) other) before (after ++ items_of right)
+graft-left : (made : Result Tree EpochFault) (right : Tree) (grown other : Option (Result Tree EpochFault)) (before after : List Item) → Grafted made grown before after
+    → Grafted made (option_or (option_map (with_left right) grown) other) before (after ++ items_of right)
 graft-left (Err fault) right grown other before after is = rw is refl
 graft-left (Ok tree) right grown other before after h =
     (parts h.0 right, (rw h.1.0 refl, rw h.1.1 (append_assoc before (items_of tree ++ after) (items_of right) ∙ ap (λ zs. before ++ zs) (append_assoc (items_of tree) after (items_of right)))))
 
 -- an answer put into the right part of a tree
-graft-right : (made : Result Tree EpochFault) (left : Tree) (grown : Option (Result Tree EpochFault)) (before after : List Item) → Grafted made grown before after → Grafted made (option_map (with_right left) grown) (items_of left ++ before) after
+graft-right : (made : Result Tree EpochFault) (left : Tree) (grown : Option (Result Tree EpochFault)) (before after : List Item) → Grafted made grown before after
+    → Grafted made (option_map (with_right left) grown) (items_of left ++ before) after
 graft-right (Err fault) left grown before after is = rw is refl
 graft-right (Ok tree) left grown before after h =
     (parts left h.0, (rw h.1.0 refl, rw h.1.1 (sym (append_assoc (items_of left) before (items_of tree ++ after)))))
@@ -294,7 +296,8 @@ root-ordered (Ok group) = elim (ltb group.count 2) as (λ b. AreGroups (cond b [
 ]
 
 -- a tree with an answer in it is ordered
-grafted-ordered : (t : Tree) (made : Result Tree EpochFault) (grown : Option (Result Tree EpochFault)) (before after : List Item) → OkShape made → AreGroups after → from_open before ≡ [] → Grafted made grown before after → IsOrdered (grown_tree t grown)
+grafted-ordered : (t : Tree) (made : Result Tree EpochFault) (grown : Option (Result Tree EpochFault)) (before after : List Item) → OkShape made → AreGroups after → from_open before ≡ []
+    → Grafted made grown before after → IsOrdered (grown_tree t grown)
 grafted-ordered t (Err fault) grown before after shape are closed is = rw is tt
 grafted-ordered t (Ok tree) grown before after shape are closed h =
     rw (h.1.0, h.1.1, after_closed before (items_of tree ++ after) closed) (shape_after tree after shape are)

@@ -72,7 +72,8 @@ from_open-single (place ∷ rest) top is one =
     rw small refl
 
 -- a top of one station gives its leaf first
-pub leaves_in-single : (stack : List Ranged) (top : Ranged) → slice_get stack 0 ≡ Some top → stations_of top ≡ 1 → leaf_of top.group top.low top.high ∷ leaves_in (map a_group (drop 1 stack)) ≡ leaves_in (map a_group stack)
+pub leaves_in-single : (stack : List Ranged) (top : Ranged) → slice_get stack 0 ≡ Some top → stations_of top ≡ 1
+    → leaf_of top.group top.low top.high ∷ leaves_in (map a_group (drop 1 stack)) ≡ leaves_in (map a_group stack)
 leaves_in-single [] top is one = absurd cc
 leaves_in-single (place ∷ rest) top is one =
     let same : place ≡ top = cc in

@@ -59,7 +59,8 @@ asked_kept (resolving t) whole rest kept = ap request_for (current_kept t whole 
 asked_kept (void_epoch out fault) whole rest kept = absurd (none_apart whole rest kept)
 
 -- whom an epoch calls, by its first group that waits
-pub calls_kept : (value : List ℕ) (epoch : Epoch) (whole : Ranged) (rest : List Ranged) → record { begun = true; waiting = whole ∷ rest } ≡ state_of epoch → calls value epoch ≡ is_called (number_of value) (Some whole)
+pub calls_kept : (value : List ℕ) (epoch : Epoch) (whole : Ranged) (rest : List Ranged) → record { begun = true; waiting = whole ∷ rest } ≡ state_of epoch
+    → calls value epoch ≡ is_called (number_of value) (Some whole)
 calls_kept value unbegun whole rest kept = absurd (root_apart (whole ∷ rest) [] kept)
 calls_kept value (resolving t) whole rest kept = ap (is_called (number_of value)) (current_kept t whole rest (ap (λ (s : State). s.waiting) kept))
 calls_kept value (void_epoch out fault) whole rest kept = absurd (none_apart whole rest kept)
@@ -89,7 +90,8 @@ root_by (Ok group) stack out step left = record {
 }
 
 -- an answer leaves what is kept of the tree with it
-grown_by : (t : Tree) (made : Result Tree EpochFault) (grown : Option (Result Tree EpochFault)) (before : List Item) (rest stack : List Ranged) (out : List Leaf) (step : Step) → from_open before ≡ [] → come_out t ≡ leaves_in before → Grafted made grown before (map a_group rest) → LeftBy made rest stack out step → Taken (resolving t) (grown_tree t grown) stack out step
+grown_by : (t : Tree) (made : Result Tree EpochFault) (grown : Option (Result Tree EpochFault)) (before : List Item) (rest stack : List Ranged) (out : List Leaf) (step : Step) → from_open before ≡ []
+    → come_out t ≡ leaves_in before → Grafted made grown before (map a_group rest) → LeftBy made rest stack out step → Taken (resolving t) (grown_tree t grown) stack out step
 grown_by t (Err fault) grown before rest stack out step closed came graft left = rw graft (record {
   kept = rw left.1.2 refl;
   leads = rw left.1.0 (come_out t, rw (sym left.1.1) refl);
@@ -110,7 +112,8 @@ same_rest : (x y : Ranged) (xs ys : List Ranged) → x ∷ xs ≡ y ∷ ys → x
 same_rest x y xs ys e = cc
 
 -- a word for the current group leaves what is kept of the epoch with it
-resolved_by : (epoch : Epoch) (word : List ℕ) (whole : Ranged) (rest stack : List Ranged) (out : List Leaf) (step : Step) → IsOrdered epoch → record { begun = true; waiting = whole ∷ rest } ≡ state_of epoch → LeftBy (split_by whole.group whole.low whole.high word) rest stack out step → Taken epoch (with_word epoch word) stack out step
+resolved_by : (epoch : Epoch) (word : List ℕ) (whole : Ranged) (rest stack : List Ranged) (out : List Leaf) (step : Step) → IsOrdered epoch
+    → record { begun = true; waiting = whole ∷ rest } ≡ state_of epoch → LeftBy (split_by whole.group whole.low whole.high word) rest stack out step → Taken epoch (with_word epoch word) stack out step
 resolved_by unbegun word whole rest stack out step ordered kept left = absurd (root_apart (whole ∷ rest) [] kept)
 resolved_by (void_epoch before fault) word whole rest stack out step ordered kept left = absurd (none_apart whole rest kept)
 resolved_by (resolving t) word whole rest stack out step ordered kept left =
@@ -128,7 +131,8 @@ pub record WithWord (words : List (List ℕ)) (word : List ℕ) (stack : List Ra
   pub came_out : out ≡ leaves_at words word
 
 -- the same, said of all words so far
-with_word_by : (words : List (List ℕ)) (word : List ℕ) (stack : List Ranged) (out : List Leaf) (step : Step) → Taken (epoch_of words) (with_word (epoch_of words) word) stack out step → WithWord words word stack out step
+with_word_by : (words : List (List ℕ)) (word : List ℕ) (stack : List Ranged) (out : List Leaf) (step : Step) → Taken (epoch_of words) (with_word (epoch_of words) word) stack out step
+    → WithWord words word stack out step
 with_word_by words word stack out step taken =
     let more = epoch_of-push words word in
     record {
@@ -138,13 +142,15 @@ with_word_by words word stack out step taken =
     }
 
 -- a root after no words
-pub with_root : (words : List (List ℕ)) (word : List ℕ) (waiting stack : List Ranged) (out : List Leaf) (step : Step) → StandsFor (record { begun = false; waiting = waiting }) words → LeftBy (root_tree (group_of word)) [] stack out step → WithWord words word stack out step
+pub with_root : (words : List (List ℕ)) (word : List ℕ) (waiting stack : List Ranged) (out : List Leaf) (step : Step) → StandsFor (record { begun = false; waiting = waiting }) words
+    → LeftBy (root_tree (group_of word)) [] stack out step → WithWord words word stack out step
 with_root words word waiting stack out step stands left =
     let none : epoch_of words ≡ unbegun = before_root (epoch_of words) waiting stands.kept in
     with_word_by words word stack out step (subst (λ (epoch : Epoch). Taken epoch (with_word epoch word) stack out step) (sym none) (root_by (group_of word) stack out step left))
 
 -- a word for the current group after other words
-pub with_answer : (words : List (List ℕ)) (word : List ℕ) (whole : Ranged) (rest stack : List Ranged) (out : List Leaf) (step : Step) → StandsFor (record { begun = true; waiting = whole ∷ rest }) words → LeftBy (split_by whole.group whole.low whole.high word) rest stack out step → WithWord words word stack out step
+pub with_answer : (words : List (List ℕ)) (word : List ℕ) (whole : Ranged) (rest stack : List Ranged) (out : List Leaf) (step : Step)
+    → StandsFor (record { begun = true; waiting = whole ∷ rest }) words → LeftBy (split_by whole.group whole.low whole.high word) rest stack out step → WithWord words word stack out step
 with_answer words word whole rest stack out step stands left =
     with_word_by words word stack out step (resolved_by (epoch_of words) word whole rest stack out step (epoch_of-ordered words) stands.kept left)
 
@@ -156,27 +162,32 @@ no_next state begun is started unfinished =
     cc
 
 -- a word for the current group of a state that takes one
-pub with_next : (state : State) (words : List (List ℕ)) (word : List ℕ) (begun : Bool) (waiting stack : List Ranged) (out : List Leaf) (step : Step) → record { begun = begun; waiting = waiting } ≡ state → begun ≡ true → is_done state ≡ false → StandsFor state words → ((whole : Ranged) (rest : List Ranged) → waiting ≡ whole ∷ rest → LeftBy (split_by whole.group whole.low whole.high word) rest stack out step) → WithWord words word stack out step
+pub with_next : (state : State) (words : List (List ℕ)) (word : List ℕ) (begun : Bool) (waiting stack : List Ranged) (out : List Leaf) (step : Step)
+    → record { begun = begun; waiting = waiting } ≡ state → begun ≡ true → is_done state ≡ false → StandsFor state words
+    → ((whole : Ranged) (rest : List Ranged) → waiting ≡ whole ∷ rest → LeftBy (split_by whole.group whole.low whole.high word) rest stack out step) → WithWord words word stack out step
 with_next state words word begun [] stack out step is started unfinished stands left = absurd (no_next state begun is started unfinished)
 with_next state words word begun (whole ∷ rest) stack out step is started unfinished stands left =
     let same : ◌≡◌ {A = State} state (record { begun = true; waiting = whole ∷ rest }) = sym is ∙ ap (λ (b : Bool). record { begun = b; waiting = whole ∷ rest }) started in
     with_answer words word whole rest stack out step (subst (λ (s : State). StandsFor s words) same stands) (left whole rest refl)
 
 -- a root for a state before it
-pub with_first : (state : State) (words : List (List ℕ)) (word : List ℕ) (begun : Bool) (waiting stack : List Ranged) (out : List Leaf) (step : Step) → record { begun = begun; waiting = waiting } ≡ state → begun ≡ false → StandsFor state words → LeftBy (root_tree (group_of word)) [] stack out step → WithWord words word stack out step
+pub with_first : (state : State) (words : List (List ℕ)) (word : List ℕ) (begun : Bool) (waiting stack : List Ranged) (out : List Leaf) (step : Step)
+    → record { begun = begun; waiting = waiting } ≡ state → begun ≡ false → StandsFor state words → LeftBy (root_tree (group_of word)) [] stack out step → WithWord words word stack out step
 with_first state words word begun waiting stack out step is started stands left =
     let same : ◌≡◌ {A = State} state (record { begun = false; waiting = waiting }) = sym is ∙ ap (λ (b : Bool). record { begun = b; waiting = waiting }) started in
     with_root words word waiting stack out step (subst (λ (s : State). StandsFor s words) same stands) left
 
 -- what a state that takes a word for a group asks for, and whom it calls
-pub asked_by : (state : State) (words : List (List ℕ)) (begun : Bool) (waiting : List Ranged) (top : Ranged) → record { begun = begun; waiting = waiting } ≡ state → begun ≡ true → slice_get waiting 0 ≡ Some top → StandsFor state words → request_after (epoch_of words) ≡ request_for (Some top)
+pub asked_by : (state : State) (words : List (List ℕ)) (begun : Bool) (waiting : List Ranged) (top : Ranged) → record { begun = begun; waiting = waiting } ≡ state → begun ≡ true
+    → slice_get waiting 0 ≡ Some top → StandsFor state words → request_after (epoch_of words) ≡ request_for (Some top)
 asked_by state words begun [] top is started here stands = absurd cc
 asked_by state words begun (whole ∷ rest) top is started here stands =
     let same : whole ≡ top = cc in
     asked_kept (epoch_of words) whole rest ((sym (ap (λ (b : Bool). record { begun = b; waiting = whole ∷ rest }) started) ∙ is) ∙ stands.kept) ∙ ap (λ (p : Ranged). request_for (Some p)) same
 
 -- whom a state calls that takes a word for a group
-pub called_by : (state : State) (words : List (List ℕ)) (value : List ℕ) (begun : Bool) (waiting : List Ranged) (top : Ranged) → record { begun = begun; waiting = waiting } ≡ state → begun ≡ true → slice_get waiting 0 ≡ Some top → StandsFor state words → calls value (epoch_of words) ≡ is_called (number_of value) (Some top)
+pub called_by : (state : State) (words : List (List ℕ)) (value : List ℕ) (begun : Bool) (waiting : List Ranged) (top : Ranged) → record { begun = begun; waiting = waiting } ≡ state → begun ≡ true
+    → slice_get waiting 0 ≡ Some top → StandsFor state words → calls value (epoch_of words) ≡ is_called (number_of value) (Some top)
 called_by state words value begun [] top is started here stands = absurd cc
 called_by state words value begun (whole ∷ rest) top is started here stands =
     let same : whole ≡ top = cc in

@@ -29,7 +29,8 @@ pub(crate) enum Answer {
 #[tactic(auto, unfolding(dc_station_rules::specs::Epochs::split_by))]
 pub(crate) fn answer_to(whole: &RangedGroup, w: &Word) -> Result<Answer, BadWord>
     requires { 1 ≤ stations_of whole.now }
-    ensures answer { answer_result_of result ≡ split_by whole.now.group whole.now.low whole.now.high w.now }
+    ensures answer { answer_result_of result
+        ≡ split_by whole.now.group whole.now.low whole.now.high w.now }
     ensures counts { IfOk result (λ answer. stations_of_answer answer ≡ stations_of whole.now) }
     ensures some { IfOk result IsOfSome }
 {

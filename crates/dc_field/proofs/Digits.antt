@@ -48,7 +48,8 @@ number_of-fits c xs i most fifteen each lt =
     omega (arith, step, below, scaled)
 
 -- numbers add up where their digits do
-pub number_of-sum : (xs ys zs : List ℕ) → length ys ≡ length xs → length zs ≡ length xs → ((i : ℕ) → i < length xs → get_or ys i 0 + get_or zs i 0 ≡ get_or xs i 0) → number_of ys + number_of zs ≡ number_of xs
+pub number_of-sum : (xs ys zs : List ℕ) → length ys ≡ length xs → length zs ≡ length xs → ((i : ℕ) → i < length xs → get_or ys i 0 + get_or zs i 0 ≡ get_or xs i 0)
+    → number_of ys + number_of zs ≡ number_of xs
 number_of-sum [] [] [] ly lz each = refl
 number_of-sum (x ∷ xs) (y ∷ ys) (z ∷ zs) ly lz each =
     let ly' : length ys ≡ length xs = omega arith in

@@ -178,7 +178,8 @@ fn first_high(limbs: &[u32], bound: u32) -> Option<usize>
 /// The place of the first limb that a part has more of than the whole, or that leaves more than a bound.
 #[tactic(auto, unfolding(dc_spec::specs::Groups::first_limb_where))]
 fn first_unfit(whole: &[u16; 15], part: &[u16; 15], bound: u16) -> Option<usize>
-    ensures place { result ≡ first_limb_where (λ i. nat_lt (slice_index whole.now i) (slice_index part.now i)
+    ensures place { result
+        ≡ first_limb_where (λ i. nat_lt (slice_index whole.now i) (slice_index part.now i)
         || nat_lt bound (slice_index whole.now i - slice_index part.now i)) }
     ensures found { IfSome result (λ i. i < 15) }
 {
@@ -210,7 +211,8 @@ fn narrowed(limbs: &[u32]) -> [u16; 15]
 /// The limbs of a whole minus those of a part.
 fn differences(whole: &[u16; 15], part: &[u16; 15]) -> [u16; 15]
     requires { (i : ℕ) → slice_index part.now i ≤ slice_index whole.now i }
-    ensures { result ≡ map (λ i. slice_index whole.now i - slice_index part.now i) (range_with_len 0 15) }
+    ensures { result
+        ≡ map (λ i. slice_index whole.now i - slice_index part.now i) (range_with_len 0 15) }
 {
     let mut rest = [0u16; 15];
     for i in 0..15 {

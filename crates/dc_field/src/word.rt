@@ -114,7 +114,8 @@ fn first_above(numbers: &[u32]) -> Option<usize>
 /// Adds the symbols of a word to sixteen totals.
 fn add_to(totals: &mut [u32; 16], w: &Word)
     requires room { (k : ℕ) → slice_index totals.old k + 65536 < 2 ^ 32 }
-    ensures added { (k : ℕ) → k < 16 → slice_index totals.new k ≡ slice_index totals.old k + slice_index w.now k }
+    ensures added { (k : ℕ) → k < 16 →
+        slice_index totals.new k ≡ slice_index totals.old k + slice_index w.now k }
     ensures grown { (k : ℕ) → slice_index totals.new k ≤ slice_index totals.old k + 65536 }
 {
     for l in 0..16 {
@@ -125,7 +126,8 @@ fn add_to(totals: &mut [u32; 16], w: &Word)
 /// Adds 65537 minus each symbol of a word to sixteen totals.
 fn add_negated(totals: &mut [u32; 16], w: &Word)
     requires room { (k : ℕ) → slice_index totals.old k + 65537 < 2 ^ 32 }
-    ensures { (k : ℕ) → k < 16 → slice_index totals.new k ≡ slice_index totals.old k + (65537 - slice_index w.now k) }
+    ensures { (k : ℕ) → k < 16 →
+        slice_index totals.new k ≡ slice_index totals.old k + (65537 - slice_index w.now k) }
 {
     for l in 0..16 {
         totals[l] += 65537 - w.symbols[l];

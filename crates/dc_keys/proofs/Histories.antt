@@ -42,6 +42,7 @@ sum-front_rest b h m r n are le =
     rw places (sum_to-add f (16 * m) (16 * r) ∙ ap (λ (x : ℕ). sum_by f (range_with_len 0 (16 * m)) + x) (sum_to-same (λ k. f (16 * m + k)) g (16 * r) same))
 
 -- the sum over a front, in a longer history
-pub sum-front : (b : List ℕ) (h more : List (List ℕ)) (m n : ℕ) → AreWords h → m ≤ length h → sum_by (λ k. get_or b (n - k) 0 * get_or (symbols h) k 0) (range_with_len 0 (16 * m)) ≡ sum_by (λ k. get_or b (n - k) 0 * get_or (symbols (h ++ more)) k 0) (range_with_len 0 (16 * m))
+pub sum-front : (b : List ℕ) (h more : List (List ℕ)) (m n : ℕ) → AreWords h → m ≤ length h
+    → sum_by (λ k. get_or b (n - k) 0 * get_or (symbols h) k 0) (range_with_len 0 (16 * m)) ≡ sum_by (λ k. get_or b (n - k) 0 * get_or (symbols (h ++ more)) k 0) (range_with_len 0 (16 * m))
 sum-front b h more m n are le =
     sum_to-same (λ k. get_or b (n - k) 0 * get_or (symbols h) k 0) (λ k. get_or b (n - k) 0 * get_or (symbols (h ++ more)) k 0) (16 * m) (λ k lt. rw (symbol-front h more k are (omega arith)) refl)

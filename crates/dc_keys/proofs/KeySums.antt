@@ -46,7 +46,8 @@ pub pad_in_piece : (pads : List ℕ) (n from k : ℕ) → k < n → get_or (take
 pad_in_piece pads n from k lt = get_or-take n (drop from pads) k 0 lt ∙ get_or-drop from pads k 0
 
 -- a total with the product of one symbol more
-pub product_more : (second w : List ℕ) (ahead j k n from was x now start : ℕ) → now ≡ was + get_or (take n (drop from second)) k 0 * x → was ≡ start + sum_by (λ i. get_or second (ahead + k - i) 0 * get_or w i 0) (range_with_len 0 j)
+pub product_more : (second w : List ℕ) (ahead j k n from was x now start : ℕ) → now ≡ was + get_or (take n (drop from second)) k 0 * x
+    → was ≡ start + sum_by (λ i. get_or second (ahead + k - i) 0 * get_or w i 0) (range_with_len 0 j)
     → x ≡ get_or w j 0 → k < n → from ≡ ahead - j → j ≤ ahead → now ≡ start + sum_by (λ i. get_or second (ahead + k - i) 0 * get_or w i 0) (range_with_len 0 (j + 1))
 product_more second w ahead j k n from was x now start is so_far symbol lt place within =
     let at : from + k ≡ ahead + k - j = omega arith in
@@ -61,11 +62,13 @@ symbols_more received w t lt is =
     rw (take_more received t w lt, ← is, flat_map-append) (ap (λ (xs : List ℕ). symbols (take t received) ++ xs) one)
 
 -- sixteen symbols more
-pub sixteen_more : (received : List (List ℕ)) (w : List ℕ) (t : ℕ) → t < length received → w ≡ get_or received t w → length w ≡ 16 → length (symbols (take t received)) ≡ 16 * t → length (symbols (take (t + 1) received)) ≡ 16 * (t + 1)
+pub sixteen_more : (received : List (List ℕ)) (w : List ℕ) (t : ℕ) → t < length received → w ≡ get_or received t w → length w ≡ 16 → length (symbols (take t received)) ≡ 16 * t
+    → length (symbols (take (t + 1) received)) ≡ 16 * (t + 1)
 sixteen_more received w t lt is wide so_far = rw (symbols_more received w t lt is) (omega (arith, length-append (symbols (take t received)) w))
 
 -- symbol j of word t
-symbol_of_word : (received : List (List ℕ)) (w : List ℕ) (t j : ℕ) → t < length received → w ≡ get_or received t w → j < length w → length (symbols (take t received)) ≡ 16 * t → get_or (symbols received) (16 * t + j) 0 ≡ get_or w j 0
+symbol_of_word : (received : List (List ℕ)) (w : List ℕ) (t j : ℕ) → t < length received → w ≡ get_or received t w → j < length w → length (symbols (take t received)) ≡ 16 * t
+    → get_or (symbols received) (16 * t + j) 0 ≡ get_or w j 0
 symbol_of_word received w t j lt is within so_far =
     let short : j < length (get_or received t w) = rw (← is) within in
     let found = get_or-flat_map (λ (v : List ℕ). v) received t j w 0 lt short in
@@ -93,7 +96,8 @@ symbol_before received t n lt =
     sym (get_or-append (symbols (take t received)) (symbols (drop t received)) 0 n lt) ∙ ap (λ (xs : List ℕ). get_or xs n 0) whole
 
 -- a total is the symbol of the key before it is reduced
-pub total_is_symbol : (a b : List ℕ) (received : List (List ℕ)) (t l n m start total : ℕ) → total ≡ get_or (take n (drop start a)) l 0 + sum_by (λ k. get_or b (16 * length (take m received) + l - k) 0 * get_or (symbols (take m received)) k 0) (range_with_len 0 (16 * length (take m received)))
+pub total_is_symbol : (a b : List ℕ) (received : List (List ℕ)) (t l n m start total : ℕ)
+    → total ≡ get_or (take n (drop start a)) l 0 + sum_by (λ k. get_or b (16 * length (take m received) + l - k) 0 * get_or (symbols (take m received)) k 0) (range_with_len 0 (16 * length (take m received)))
     → length (symbols (take m received)) ≡ 16 * length (take m received) → l < n → start ≡ 16 * t → m ≡ t → t ≤ length received → total % 65537 ≡ key_symbol a b (symbols received) (16 * t) (16 * t + l)
 total_is_symbol a b received t l n m start total is sixteen lt place front within =
     let long : length (take m received) ≡ t = omega (arith, length-take m received) in

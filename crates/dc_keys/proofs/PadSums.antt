@@ -15,7 +15,8 @@ signed_pads-are_symbols pads pairs me xs each =
     All-from_get_or IsSymbol xs 0 (λ n lt. rw (each n lt) (mod-lt (sum_by (λ p. get_or (pads p) n 0) (filter (λ p. p.u == me) pairs) + sum_by (λ p. 65537 - get_or (pads p) n 0) (filter (λ p. p.v == me) pairs)) (omega arith)))
 
 -- a list of the signed sums at each place
-pub signed_pads-by_place : (pads : Pair → List ℕ) (pairs : List Pair) (me words : ℕ) (xs : List ℕ) → length xs ≡ 16 * words → ((n : ℕ) → n < length xs → get_or xs n 0 ≡ signed_pad pads pairs me n) → xs ≡ signed_pads pads pairs me words
+pub signed_pads-by_place : (pads : Pair → List ℕ) (pairs : List Pair) (me words : ℕ) (xs : List ℕ) → length xs ≡ 16 * words → ((n : ℕ) → n < length xs → get_or xs n 0 ≡ signed_pad pads pairs me n)
+    → xs ≡ signed_pads pads pairs me words
 unfolding signed_pads
 signed_pads-by_place pads pairs me words xs len each = fill_by_all (signed_pad pads pairs me) xs (16 * words) 0 len (λ n lt. each n (omega arith))
 
@@ -39,7 +40,8 @@ signed_pad-zero pads pairs me n none =
     rw (plus, minus) (whole_turns (length (filter (λ p. p.v == me) pairs)))
 
 -- the signed sums of the pads of a key file are the pads of a station
-IsStationPads-signed : (keys : Keys) (me : ℕ) (first second : List ℕ) → IsKeys keys → length first ≡ 16 * keys.words → length second ≡ 16 * keys.words → ((n : ℕ) → n < length first → get_or first n 0 ≡ signed_pad (λ p. p.a) keys.pairs me n)
+IsStationPads-signed : (keys : Keys) (me : ℕ) (first second : List ℕ) → IsKeys keys → length first ≡ 16 * keys.words → length second ≡ 16 * keys.words
+    → ((n : ℕ) → n < length first → get_or first n 0 ≡ signed_pad (λ p. p.a) keys.pairs me n)
     → ((n : ℕ) → n < length second → get_or second n 0 ≡ signed_pad (λ p. p.b) keys.pairs me n) → IsStationPads (record { first = first; second = second })
 IsStationPads-signed keys me first second are first_length second_length each_first each_second = record {
   some_words = let some = are.some_words in omega arith;
@@ -52,7 +54,8 @@ IsStationPads-signed keys me first second are first_length second_length each_fi
 }
 
 -- those pads by their places
-station_pads-by_place : (keys : Keys) (me : ℕ) (first second : List ℕ) → length first ≡ 16 * keys.words → length second ≡ 16 * keys.words → ((n : ℕ) → n < length first → get_or first n 0 ≡ signed_pad (λ p. p.a) keys.pairs me n)
+station_pads-by_place : (keys : Keys) (me : ℕ) (first second : List ℕ) → length first ≡ 16 * keys.words → length second ≡ 16 * keys.words
+    → ((n : ℕ) → n < length first → get_or first n 0 ≡ signed_pad (λ p. p.a) keys.pairs me n)
     → ((n : ℕ) → n < length second → get_or second n 0 ≡ signed_pad (λ p. p.b) keys.pairs me n) → record { first = first; second = second } ≡ station_pads keys me
 station_pads-by_place keys me first second first_length second_length each_first each_second =
     rw (signed_pads-by_place (λ p. p.a) keys.pairs me keys.words first first_length each_first, signed_pads-by_place (λ p. p.b) keys.pairs me keys.words second second_length each_second) refl
@@ -62,7 +65,8 @@ whole_written : (xs rest now : List ℕ) (n : ℕ) → now ≡ take n (xs ++ res
 whole_written xs rest now n is long = is ∙ rw (← long) (take-append_seam xs rest)
 
 -- the same for the two lists that a loop over the pairs has filled
-pub station_pads-written : (keys : Keys) (me n m : ℕ) (pairs : List Pair) (first second first_rest second_rest first_now second_now : List ℕ) → first_now ≡ take n (first ++ first_rest) → second_now ≡ take m (second ++ second_rest)
+pub station_pads-written : (keys : Keys) (me n m : ℕ) (pairs : List Pair) (first second first_rest second_rest first_now second_now : List ℕ) → first_now ≡ take n (first ++ first_rest)
+    → second_now ≡ take m (second ++ second_rest)
     → length first ≡ n → length second ≡ m → n ≡ 16 * keys.words → m ≡ 16 * keys.words → pairs ≡ keys.pairs → ((n : ℕ) → n < length first → get_or first n 0 ≡ signed_pad (λ p. p.a) pairs me n)
     → ((n : ℕ) → n < length second → get_or second n 0 ≡ signed_pad (λ p. p.b) pairs me n) → IsKeys keys → IsStationPads (record { first = first_now; second = second_now }) × (record { first = first_now; second = second_now } ≡ station_pads keys me)
 station_pads-written keys me n m pairs first second first_rest second_rest first_now second_now first_is second_is long_first long_second n_is m_is same each_first each_second are =

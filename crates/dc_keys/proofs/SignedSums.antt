@@ -36,7 +36,8 @@ products_of_none : (c : ℕ → ℕ) (ks : List ℕ) → sum_by (λ k. 0 * c k) 
 products_of_none c ks = products_of_one 0 c ks ∙ omega arith
 
 -- the sums of products of all items are the products with the sums of all items
-pub sums_of_products : {X : Type 0} (a : X → ℕ) (b : X → ℕ → ℕ) (c : ℕ → ℕ) (ks : List ℕ) (xs : List X) → sum_by (λ x. a x + sum_by (λ k. b x k * c k) ks) xs ≡ sum_by a xs + sum_by (λ k. sum_by (λ x. b x k) xs * c k) ks
+pub sums_of_products : {X : Type 0} (a : X → ℕ) (b : X → ℕ → ℕ) (c : ℕ → ℕ) (ks : List ℕ) (xs : List X)
+    → sum_by (λ x. a x + sum_by (λ k. b x k * c k) ks) xs ≡ sum_by a xs + sum_by (λ k. sum_by (λ x. b x k) xs * c k) ks
 sums_of_products a b c ks [] =
     let none : sum_by (λ k. sum_by (λ x. b x k) [] * c k) ks ≡ 0 = products_of_none c ks in
     omega (arith, none)

@@ -104,7 +104,8 @@ signed_symbol plus minus words h l are room lt =
     left ∙ sym signed ∙ ap (λ (x : ℕ). x % 65537) (sym whole) ∙ sym right
 
 -- the signed sum of the keys is the key of the summed pads
-keys_by_pads : (plus minus : List Pair) (words : ℕ) (h : List (List ℕ)) → All (IsPadded words) minus → length h < words → word_sub (key_sum plus h) (key_sum minus h) ≡ station_key (sided_sums plus minus words) h
+keys_by_pads : (plus minus : List Pair) (words : ℕ) (h : List (List ℕ)) → All (IsPadded words) minus → length h < words
+    → word_sub (key_sum plus h) (key_sum minus h) ≡ station_key (sided_sums plus minus words) h
 keys_by_pads plus minus words h are room = word_of-same _ _ (λ l lt. signed_symbol plus minus words h l are room lt)
 
 -- pairs of a key file have pads for its words

@@ -12,7 +12,8 @@ pub(crate) fn add_pads(sums: &mut [u32], pads: &[u32])
     requires sums { (n : ℕ) → slice_index sums.old n < 65537 }
     requires pads { (n : ℕ) → slice_index pads.now n < 65537 }
     ensures symbols { (n : ℕ) → slice_index sums.new n < 65537 }
-    ensures added { (n : ℕ) → n < length sums.old → slice_index sums.new n ≡ (slice_index sums.old n + slice_index pads.now n) % 65537 }
+    ensures added { (n : ℕ) → n < length sums.old →
+        slice_index sums.new n ≡ (slice_index sums.old n + slice_index pads.now n) % 65537 }
 {
     for n in 0..sums.len() {
         sums[n] = below_modulus(sums[n] + pads[n]);
@@ -24,7 +25,9 @@ pub(crate) fn subtract_pads(sums: &mut [u32], pads: &[u32])
     requires as_many { length pads.now ≡ length sums.old }
     requires sums { (n : ℕ) → slice_index sums.old n < 65537 }
     requires pads { (n : ℕ) → slice_index pads.now n < 65537 }
-    ensures { (n : ℕ) → n < length sums.old → slice_index sums.new n ≡ (slice_index sums.old n + (65537 - slice_index pads.now n)) % 65537 }
+    ensures { (n : ℕ) → n < length sums.old →
+        slice_index sums.new n
+        ≡ (slice_index sums.old n + (65537 - slice_index pads.now n)) % 65537 }
 {
     for n in 0..sums.len() {
         sums[n] = below_modulus(sums[n] + (65537 - pads[n]));
@@ -77,7 +80,8 @@ fn add_scaled(totals: &mut [u64; 16], pads: &[u32], c: u32)
     requires pads_small { (l : ℕ) → slice_index pads.now l ≤ 65536 }
     requires symbol { c ≤ 65536 }
     requires room { (l : ℕ) → slice_index totals.old l + 4294967296 < 2 ^ 64 }
-    ensures added { (l : ℕ) → l < 16 → slice_index totals.new l ≡ slice_index totals.old l + slice_index pads.now l * c }
+    ensures added { (l : ℕ) → l < 16 →
+        slice_index totals.new l ≡ slice_index totals.old l + slice_index pads.now l * c }
     ensures grown { (l : ℕ) → slice_index totals.new l ≤ slice_index totals.old l + 4294967296 }
 {
     for l in 0..16 {

@@ -76,7 +76,8 @@ fn copied(alloc: Global, symbols: &Syms) -> Result<Syms, NoMemory>
 fn are_pads(a: &[u32], b: &[u32]) -> bool
     requires first { All IsSymbol a.now }
     requires second { All IsSymbol b.now }
-    ensures { (u v : ℕ) → IsTrue result ↔ IsPairKey (record { u = u; v = v; a = a.now; b = b.now }) }
+    ensures { (u v : ℕ) →
+        IsTrue result ↔ IsPairKey (record { u = u; v = v; a = a.now; b = b.now }) }
 {
     let words = a.len() / 16;
     1 <= words

@@ -64,8 +64,10 @@ fn sum_pairs(pairs: &[PairKey], me: u16, first: &mut [u32], second: &mut [u32])
     requires second_pads { All (λ p. length p.b ≡ length second.old) pairs.now }
     requires first_zeros { (n : ℕ) → slice_index first.old n ≡ 0 }
     requires second_zeros { (n : ℕ) → slice_index second.old n ≡ 0 }
-    ensures first { (n : ℕ) → n < length first.old → slice_index first.new n ≡ signed_pad (λ p. p.a) pairs.now me n }
-    ensures second { (n : ℕ) → n < length second.old → slice_index second.new n ≡ signed_pad (λ p. p.b) pairs.now me n }
+    ensures first { (n : ℕ) → n < length first.old →
+        slice_index first.new n ≡ signed_pad (λ p. p.a) pairs.now me n }
+    ensures second { (n : ℕ) → n < length second.old →
+        slice_index second.new n ≡ signed_pad (λ p. p.b) pairs.now me n }
 {
     for pair in pairs {
         add_signed(first, pair.a.as_slice(), pair.u == me, pair.v == me);

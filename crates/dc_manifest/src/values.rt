@@ -66,7 +66,8 @@ pub(crate) fn first_absent(table: &Table) -> Option<&'static str>
 
 /// The first of these names that a table does not have.
 fn absent_among<'a>(table: &Table, names: &[&'a str]) -> Option<&'a str>
-    ensures { option_map (λ name. name.now) result ≡ find (is_absent (table_view table.now)) (map (λ name. name.now) names.now) }
+    ensures { option_map (λ name. name.now) result
+        ≡ find (is_absent (table_view table.now)) (map (λ name. name.now) names.now) }
 {
     for name in names {
         if value_at(table, *name).is_none() {

@@ -4,4 +4,4 @@
 #[cfg(test)]
 mod manifest_tests;
 #[cfg(test)]
-mod told;
+mod printed;

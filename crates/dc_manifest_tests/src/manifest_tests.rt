@@ -1,12 +1,12 @@
-use crate::told::reading;
+use crate::printed::reading;
 use std::fmt::Write;
 use std::process::Abort;
 use std::test::*;
 
 /// These bytes are read so.
 fn read_as<R: AllocGlobal + Abort>(rt: &R, text: &[u8], due: &str) -> Result<(), Fail> {
-    let told = reading(rt, text)?;
-    assert_eq!(rt; told.as_str(), due);
+    let printed = reading(rt, text)?;
+    assert_eq!(rt; printed.as_str(), due);
     Ok(())
 }
 
@@ -155,8 +155,8 @@ fn all_edges<R: AllocGlobal + Abort>(
         write!(text, "'',")?;
     }
     write!(text, "]\n")?;
-    let told = reading(rt, text.as_bytes())?;
-    assert!(rt; told.as_str().starts_with(due), "{}", told.as_str());
+    let printed = reading(rt, text.as_bytes())?;
+    assert!(rt; printed.as_str().starts_with(due), "{}", printed.as_str());
     Ok(())
 }
 

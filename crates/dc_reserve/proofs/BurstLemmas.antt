@@ -93,7 +93,8 @@ one_less a b = elim (eqb_tells a b) [
   | inr e ↦ rw e.0 (ne_eqb (a + 1) (b + 1) (λ same. e.1 (omega arith)))
 ]
 
-fault_of_later : (words : List (List ℕ)) (word : List ℕ) (left i : ℕ) → length words ≡ suc i → word_count (nth_word words i) ≡ left + 1 → fault_at (with_word words word) (suc i) ≡ next_fault (Later left) (carried words) word
+fault_of_later : (words : List (List ℕ)) (word : List ℕ) (left i : ℕ) → length words ≡ suc i → word_count (nth_word words i) ≡ left + 1
+    → fault_at (with_word words word) (suc i) ≡ next_fault (Later left) (carried words) word
 unfolding fault_at
 fault_of_later words word left i size count =
     let here : nth_word (with_word words word) (suc i) ≡ word = subst (λ (k : ℕ). nth_word (with_word words word) k ≡ word) size (last-with_word words word) in
@@ -103,7 +104,8 @@ fault_of_later words word left i size count =
     rw (padding, here, before, count, one_less (word_count word) left) (or_apart _ (limb_fault word) None _)
 
 -- the first check that the next word breaks
-fault_of_next : (phase : Phase) (bytes : List ℕ) (words : List (List ℕ)) (word : List ℕ) → IsKeptOf phase bytes words goes_on → fault_at (with_word words word) (length words) ≡ next_fault phase bytes word
+fault_of_next : (phase : Phase) (bytes : List ℕ) (words : List (List ℕ)) (word : List ℕ) → IsKeptOf phase bytes words goes_on
+    → fault_at (with_word words word) (length words) ≡ next_fault phase bytes word
 fault_of_next First bytes words word keeps = rw (keeps.0, keeps.1) (fault_of_first word)
 fault_of_next (Later left) bytes words word keeps =
     let size : length words ≡ suc (length words - 1) = omega (arith, keeps.0) in
@@ -115,7 +117,8 @@ fault_of_next Broken bytes words word keeps = absurd keeps
 clean_before : (words : List (List ℕ)) (word : List ℕ) → burst_of words ≡ goes_on → (i : ℕ) → i < length words → fault_at (with_word words word) i ≡ None
 clean_before words word e i lt = fault_at-append words (word ∷ []) i lt ∙ going_clean words e i lt
 
-clean_all : (words : List (List ℕ)) (word : List ℕ) → burst_of words ≡ goes_on → fault_at (with_word words word) (length words) ≡ None → (i : ℕ) → i < length (with_word words word) → fault_at (with_word words word) i ≡ None
+clean_all : (words : List (List ℕ)) (word : List ℕ) → burst_of words ≡ goes_on → fault_at (with_word words word) (length words) ≡ None → (i : ℕ) → i < length (with_word words word)
+    → fault_at (with_word words word) i ≡ None
 clean_all words word e last i lt = elim (cases_lt i (length words)) [
   | inl below ↦ clean_before words word e i below
   | inr le ↦ let same : length words ≡ i = omega (arith, length-with_word words word) in subst (λ (k : ℕ). fault_at (with_word words word) k ≡ None) same last
@@ -135,7 +138,8 @@ bytes_so_far (Whole size) bytes words keeps = absurd keeps
 bytes_so_far Broken bytes words keeps = absurd keeps
 
 -- what one more word does: what is kept after it goes with all words, and the step shows what they are
-pub one_more : (phase : Phase) (bytes : List ℕ) (words : List (List ℕ)) (word : List ℕ) (step : BurstStep) (new : List ℕ) → IsGoing phase → FitsPhase phase bytes → IsKeptOf phase bytes words goes_on → burst_of words ≡ goes_on → Leads phase bytes word step new
+pub one_more : (phase : Phase) (bytes : List ℕ) (words : List (List ℕ)) (word : List ℕ) (step : BurstStep) (new : List ℕ) → IsGoing phase → FitsPhase phase bytes → IsKeptOf phase bytes words goes_on
+    → burst_of words ≡ goes_on → Leads phase bytes word step new
     → IsKeptOf (burst_phase_after step word) new (with_word words word) (burst_of (with_word words word)) × StepShows step (burst_of (with_word words word))
 one_more phase bytes words word Goes new going fits keeps e leads =
     let fault : fault_at (with_word words word) (length words) ≡ None = fault_of_next phase bytes words word keeps ∙ (rw leads.0 (not_one (word_count word) leads.1)) in
@@ -176,7 +180,8 @@ going_on (Whole size) bytes words burst going keeps = absurd going
 going_on Broken bytes words burst going keeps = absurd going
 
 -- the same from what the object stands for
-pub step_after : (state : State) (words : List (List ℕ)) (word : List ℕ) (step : BurstStep) (new : List ℕ) → IsGoing state.phase → FitsPhase state.phase state.bytes → Leads state.phase state.bytes word step new → StandsFor state words
+pub step_after : (state : State) (words : List (List ℕ)) (word : List ℕ) (step : BurstStep) (new : List ℕ) → IsGoing state.phase → FitsPhase state.phase state.bytes
+    → Leads state.phase state.bytes word step new → StandsFor state words
     → IsKeptOf (burst_phase_after step word) new (with_word words word) (burst_of (with_word words word)) × StepShows step (burst_of (with_word words word))
 step_after state words word step new going fits leads stands =
     let e : burst_of words ≡ goes_on = going_on state.phase state.bytes words (burst_of words) going stands.kept in

@@ -20,7 +20,8 @@ unfolding fields_of granted
 granted_flags flags word each = filter_same (has_field flags) (λ field. slice_index word field == 1) 0 16 (λ i lt. let place : i ≡ 0 + i = omega arith in subst (λ k. has_field flags k ≡ (slice_index word k == 1)) place (each i lt))
 
 -- among numbers that are all at or above f the first that passes
-above_by : (p : ℕ → Bool) (f a : ℕ) (rest : List ℕ) (b : Bool) → p a ≡ b → f ≤ a → find (λ x. nat_le f x) (filter p rest) ≡ find p rest → find (λ x. nat_le f x) (filter p (a ∷ rest)) ≡ find p (a ∷ rest)
+above_by : (p : ℕ → Bool) (f a : ℕ) (rest : List ℕ) (b : Bool) → p a ≡ b → f ≤ a → find (λ x. nat_le f x) (filter p rest) ≡ find p rest
+    → find (λ x. nat_le f x) (filter p (a ∷ rest)) ≡ find p (a ∷ rest)
 above_by p f a rest true e le after = rw (e, le-leb f a le) refl
 above_by p f a rest false e le after = rw e after
 

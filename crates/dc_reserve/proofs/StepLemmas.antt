@@ -88,7 +88,8 @@ pub message_fits : (word bytes : List ℕ) → After word bytes → word_count w
 message_fits word bytes after one = let fits = (enough (short_at bytes 0)).0 in let due = after.due in omega arith
 
 -- the bytes go with the phase after a step
-pub fits_after : (phase : Phase) (bytes word : List ℕ) (step : BurstStep) (new : List ℕ) → IsGoing phase → FitsPhase phase bytes → Leads phase bytes word step new → FitsPhase (burst_phase_after step word) new × MayFollow step word
+pub fits_after : (phase : Phase) (bytes word : List ℕ) (step : BurstStep) (new : List ℕ) → IsGoing phase → FitsPhase phase bytes → Leads phase bytes word step new
+    → FitsPhase (burst_phase_after step word) new × MayFollow step word
 fits_after phase bytes word Goes new going fits leads =
     let after : After word new = rw leads.2 (after_word phase bytes word going fits leads.0) in
     let some : 1 ≤ word_count word = after.some in

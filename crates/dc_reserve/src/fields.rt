@@ -26,7 +26,8 @@ impl Model for Fields {
 
 /// The fields whose symbol is exactly 1.
 pub fn granted(w: &Word) -> Fields
-    ensures flags { (field : ℕ) → field < 16 → has_field result field ≡ (slice_index w.now field == 1) }
+    ensures flags { (field : ℕ) → field < 16 →
+        has_field result field ≡ (slice_index w.now field == 1) }
     ensures fields { fields_of result ≡ granted w.now }
 {
     let numbers = w.numbers();

@@ -100,7 +100,8 @@ fn is_allowed(phase: Phase, count: u32) -> bool
 
 /// The first limb above 255.
 fn first_high(numbers: &[u32; 16]) -> Option<usize>
-    ensures limb { result ≡ find (λ l. nat_lt 255 (slice_index numbers.now l)) (range_with_len 1 15) }
+    ensures limb { result
+        ≡ find (λ l. nat_lt 255 (slice_index numbers.now l)) (range_with_len 1 15) }
     ensures below { IfSome result (λ l. l < 16) }
 {
     (1..16).find(|l| 255 < numbers[*l])

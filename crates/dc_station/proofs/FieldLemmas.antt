@@ -25,7 +25,8 @@ found_passes p found [] some = cc
 found_passes p found (x ∷ xs) some = found_passes_by p x found xs (p x) refl (found_passes p found xs) some
 
 -- numbers that are all at or above a bound all stay
-all_stay_by : (p : ℕ → Bool) (f a : ℕ) (rest : List ℕ) (b : Bool) → p a ≡ b → f ≤ a → filter (λ k. nat_le f k) (filter p rest) ≡ filter p rest → filter (λ k. nat_le f k) (filter p (a ∷ rest)) ≡ filter p (a ∷ rest)
+all_stay_by : (p : ℕ → Bool) (f a : ℕ) (rest : List ℕ) (b : Bool) → p a ≡ b → f ≤ a → filter (λ k. nat_le f k) (filter p rest) ≡ filter p rest
+    → filter (λ k. nat_le f k) (filter p (a ∷ rest)) ≡ filter p (a ∷ rest)
 all_stay_by p f a rest true e le after = rw (e, le-leb f a le, after) refl
 all_stay_by p f a rest false e le after = rw e after
 
@@ -49,7 +50,8 @@ splits_later p f a n x true e lt le rest =
     rw (e, below, above) rest
 splits_later p f a n x false e lt le rest = rw e rest
 
-splits_by : (p : ℕ → Bool) (f a n x : ℕ) (b : Bool) → p a ≡ b → (find (λ k. nat_le f k) (filter p (range_with_len (a + 1) n)) ≡ Some x → SplitsAt p f (range_with_len (a + 1) n) x) → find (λ k. nat_le f k) (filter p (range_with_len a (suc n))) ≡ Some x → (a < f) ⊎ (f ≤ a) → SplitsAt p f (range_with_len a (suc n)) x
+splits_by : (p : ℕ → Bool) (f a n x : ℕ) (b : Bool) → p a ≡ b → (find (λ k. nat_le f k) (filter p (range_with_len (a + 1) n)) ≡ Some x → SplitsAt p f (range_with_len (a + 1) n) x)
+    → find (λ k. nat_le f k) (filter p (range_with_len a (suc n))) ≡ Some x → (a < f) ⊎ (f ≤ a) → SplitsAt p f (range_with_len a (suc n)) x
 splits_by p f a n x true e rest some (inl lt) =
     let below : nat_le f a ≡ false = grind (arith, nat_tests) in
     let later = rw (e, below) at some in

@@ -22,7 +22,8 @@ leaf_more leaves i leaf is =
     rw add-one (take-suc leaves i leaf (slice_get_within leaves i leaf is) ∙ ap (λ x. take i leaves ++ x ∷ []) (get_or_from_slice_get leaves i leaf leaf is))
 
 -- entries of leaves, and one leaf more
-pub entries_more : (entries : List Entry) (leaves : List Leaf) (i : ℕ) (leaf : Leaf) → slice_get leaves i ≡ Some leaf → entries ++ map leaf_entry (take (i + 1) leaves) ≡ (entries ++ map leaf_entry (take i leaves)) ++ leaf_entry leaf ∷ []
+pub entries_more : (entries : List Entry) (leaves : List Leaf) (i : ℕ) (leaf : Leaf) → slice_get leaves i ≡ Some leaf
+    → entries ++ map leaf_entry (take (i + 1) leaves) ≡ (entries ++ map leaf_entry (take i leaves)) ++ leaf_entry leaf ∷ []
 entries_more entries leaves i leaf is =
     ap (λ xs. entries ++ map leaf_entry xs) (leaf_more leaves i leaf is) ∙ (ap (λ es. entries ++ es) (map-append leaf_entry (take i leaves) (leaf ∷ [])) ∙ sym (append_assoc entries (map leaf_entry (take i leaves)) (leaf_entry leaf ∷ [])))
 

@@ -39,7 +39,8 @@ unfolding history_of log_of
 receives_none receiver phase log = record { place = rw phase refl; log = log }
 
 -- the phase that a receiver keeps is that of the place
-phase_in : (phase : Phase) (flags : List Bool) (burst : BurstState) (epoch : EpochState) (words : List (List ℕ)) → InPhase phase flags burst epoch (history_of words).begun → phase ≡ phase_at (place_of words)
+phase_in : (phase : Phase) (flags : List Bool) (burst : BurstState) (epoch : EpochState) (words : List (List ℕ)) → InPhase phase flags burst epoch (history_of words).begun
+    → phase ≡ phase_at (place_of words)
 unfolding place_of
 phase_in Reserve flags burst epoch words place = rw place refl
 phase_in (Burst field index) flags burst epoch words place = rw (place.is, place.left, ← place.counted) refl
@@ -49,7 +50,8 @@ pub phase_of : (receiver : Reception) (words : List (List ℕ)) → Receives rec
 phase_of receiver words stands = phase_in receiver.phase receiver.granted receiver.burst receiver.epoch words stands.place
 
 -- a begun cycle without words since its last burst, and the phase that begins with the fields that are left
-entered_by : (fields : List ℕ) (flags : List Bool) (phase : Phase) (burst : BurstState) (epoch : EpochState) (cycle : Cycle) (begun : Option Cycle) → IsAt fields flags phase epoch → begun ≡ Some cycle → fields_left cycle ≡ fields → cycle.since ≡ [] → InPhase phase flags burst epoch begun
+entered_by : (fields : List ℕ) (flags : List Bool) (phase : Phase) (burst : BurstState) (epoch : EpochState) (cycle : Cycle) (begun : Option Cycle) → IsAt fields flags phase epoch → begun ≡ Some cycle
+    → fields_left cycle ≡ fields → cycle.since ≡ [] → InPhase phase flags burst epoch begun
 entered_by [] flags phase burst epoch cycle begun at is left none =
     rw (at.0) (record { cycle = cycle; is = is; left = left; stands = rw none (at.1) })
 entered_by (field ∷ fields) flags phase burst epoch cycle begun at is left none =
@@ -66,7 +68,8 @@ index_by [] flags phase epoch at = rw (at.0) refl
 index_by (field ∷ fields) flags phase epoch at = rw (at.0) refl
 
 -- a reservation word taken
-pub took_reservation : (old new : Reception) (word : List ℕ) → old.phase ≡ Reserve → fields_of new.granted ≡ granted word → IsAt (fields_from new.granted 0) new.granted new.phase new.epoch → new.log ≡ old.log → ReceivesWord old word new Nothing
+pub took_reservation : (old new : Reception) (word : List ℕ) → old.phase ≡ Reserve → fields_of new.granted ≡ granted word → IsAt (fields_from new.granted 0) new.granted new.phase new.epoch
+    → new.log ≡ old.log → ReceivesWord old word new Nothing
 took_reservation old new word phase fields at log =
     let flags = new.granted in
     let none = λ (words : List (List ℕ)) (stands : Receives old words). subst (λ p. InPhase p old.granted old.burst old.epoch (history_of words).begun) phase stands.place in
@@ -92,7 +95,8 @@ may_take : (old : Reception) (field index : ℕ) → old.phase ≡ Burst field i
 may_take old field index phase ready = subst (λ p. MayTake p old.burst old.epoch) phase ready
 
 -- a word taken after which a burst goes on
-pub took_going : (old new : Reception) (field index : ℕ) (word : List ℕ) → old.phase ≡ Burst field index → IsReady old → TakesNext index old.burst word new.burst Goes → new.phase ≡ Burst field (index + 1) → new.granted ≡ old.granted → new.log ≡ old.log → ReceivesWord old word new Nothing
+pub took_going : (old new : Reception) (field index : ℕ) (word : List ℕ) → old.phase ≡ Burst field index → IsReady old → TakesNext index old.burst word new.burst Goes
+    → new.phase ≡ Burst field (index + 1) → new.granted ≡ old.granted → new.log ≡ old.log → ReceivesWord old word new Nothing
 took_going old new field index word phase ready took next flags log =
     let ended = λ (words : List (List ℕ)) (stands : Receives old words). let place = in_burst_place old field index words phase stands in took.shows place.cycle.since place.counted place.stands in
     record {
@@ -115,12 +119,15 @@ took_going old new field index word phase ready took next flags log =
     }
 
 -- the place after a word that ends a burst
-ended_place : (old new : Reception) (field index : ℕ) (words : List (List ℕ)) (word : List ℕ) → (place : InBurst field index old.granted old.burst (history_of words).begun) → IsAt (fields_from new.granted (field + 1)) new.granted new.phase new.epoch → new.granted ≡ old.granted → BurstEnds nothing words word place.cycle field (fields_from old.granted (field + 1)) → InPhase new.phase new.granted new.burst new.epoch (history_of (words ++ word ∷ [])).begun
+ended_place : (old new : Reception) (field index : ℕ) (words : List (List ℕ)) (word : List ℕ) → (place : InBurst field index old.granted old.burst (history_of words).begun)
+    → IsAt (fields_from new.granted (field + 1)) new.granted new.phase new.epoch → new.granted ≡ old.granted → BurstEnds nothing words word place.cycle field (fields_from old.granted (field + 1))
+    → InPhase new.phase new.granted new.burst new.epoch (history_of (words ++ word ∷ [])).begun
 ended_place old new field index words word place at flags step =
     entered_by (fields_from new.granted (field + 1)) new.granted new.phase new.burst new.epoch (with_ended place.cycle field (place.cycle.since ++ word ∷ [])) (history_of (words ++ word ∷ [])).begun at (ap (λ h. h.begun) step.history) (step.left ∙ ap (λ g. fields_from g (field + 1)) (sym flags)) refl
 
 -- a word taken that makes a burst void
-pub took_void : (old new : Reception) (field index : ℕ) (word : List ℕ) (why : BadBurst) → old.phase ≡ Burst field index → TakesNext index old.burst word new.burst (Void why) → IsAt (fields_from new.granted (field + 1)) new.granted new.phase new.epoch → new.granted ≡ old.granted → new.log ≡ old.log → ReceivesWord old word new Nothing
+pub took_void : (old new : Reception) (field index : ℕ) (word : List ℕ) (why : BadBurst) → old.phase ≡ Burst field index → TakesNext index old.burst word new.burst (Void why)
+    → IsAt (fields_from new.granted (field + 1)) new.granted new.phase new.epoch → new.granted ≡ old.granted → new.log ≡ old.log → ReceivesWord old word new Nothing
 took_void old new field index word why phase took at flags log =
     let ended = λ (words : List (List ℕ)) (stands : Receives old words). let place = in_burst_place old field index words phase stands in took.shows place.cycle.since place.counted place.stands in
     record {
@@ -142,7 +149,10 @@ took_void old new field index word why phase took at flags log =
     }
 
 -- a word taken that makes a burst whole, where its message was put into the log
-pub took_message : (old new : Reception) (field index : ℕ) (word : List ℕ) (size : ℕ) (given : List ℕ) → old.phase ≡ Burst field index → TakesNext index old.burst word new.burst (GivesMessage size) → IsAt (fields_from new.granted (field + 1)) new.granted new.phase new.epoch → new.granted ≡ old.granted → new.log.room ≡ old.log.room → ((words : List (List ℕ)) (message : List ℕ) → BurstStandsFor new.burst words → burst_of words ≡ gave message → given ≡ message) → (FitsRoom (old.log.entries ++ long given ∷ []) old.log.room → new.log.entries ≡ old.log.entries ++ long given ∷ []) → ReceivesWord old word new (Message field)
+pub took_message : (old new : Reception) (field index : ℕ) (word : List ℕ) (size : ℕ) (given : List ℕ) → old.phase ≡ Burst field index → TakesNext index old.burst word new.burst (GivesMessage size)
+    → IsAt (fields_from new.granted (field + 1)) new.granted new.phase new.epoch → new.granted ≡ old.granted → new.log.room ≡ old.log.room
+    → ((words : List (List ℕ)) (message : List ℕ) → BurstStandsFor new.burst words → burst_of words ≡ gave message → given ≡ message)
+    → (FitsRoom (old.log.entries ++ long given ∷ []) old.log.room → new.log.entries ≡ old.log.entries ++ long given ∷ []) → ReceivesWord old word new (Message field)
 took_message old new field index word size given phase took at flags room is_given put =
     let stood = λ (words : List (List ℕ)) (stands : Receives old words). let place = in_burst_place old field index words phase stands in took.stands place.cycle.since place.counted place.stands in
     let shown = λ (words : List (List ℕ)) (stands : Receives old words). let place = in_burst_place old field index words phase stands in took.shows place.cycle.since place.counted place.stands in
@@ -168,7 +178,9 @@ took_message old new field index word size given phase took at flags room is_giv
     }
 
 -- the place after a word of an epoch
-epoch_place : (over : Bool) (phase : Phase) (flags : List Bool) (burst : BurstState) (epoch : EpochState) (whole : List Cycle) (cycle : Cycle) (words : List (List ℕ)) (history : History) → phase ≡ phase_after_epoch_word over → over ≡ is_over (epoch_of words) → history ≡ with_epoch whole cycle words → fields_left cycle ≡ [] → EpochStandsFor epoch words → InPhase phase flags burst epoch history.begun
+epoch_place : (over : Bool) (phase : Phase) (flags : List Bool) (burst : BurstState) (epoch : EpochState) (whole : List Cycle) (cycle : Cycle) (words : List (List ℕ)) (history : History)
+    → phase ≡ phase_after_epoch_word over → over ≡ is_over (epoch_of words) → history ≡ with_epoch whole cycle words → fields_left cycle ≡ [] → EpochStandsFor epoch words
+    → InPhase phase flags burst epoch history.begun
 epoch_place true phase flags burst epoch whole cycle words history after over is left stands = rw (after, is, ← over) refl
 epoch_place false phase flags burst epoch whole cycle words history after over is left stands =
     rw (after, is, ← over) (record { cycle = since_then cycle words; is = refl; left = left; stands = stands })
@@ -182,7 +194,9 @@ epoch_index true phase after = rw after refl
 epoch_index false phase after = rw after refl
 
 -- a word of an epoch taken, where its leaves were put into the log
-pub took_leaves : (old new : Reception) (word : List ℕ) (over : Bool) → old.phase ≡ Epoch → ((words : List (List ℕ)) → EpochStandsFor old.epoch words → EpochStandsFor new.epoch (words ++ word ∷ [])) → ((words : List (List ℕ)) → EpochStandsFor old.epoch words → new.leaves ≡ leaves_at words word) → over ≡ is_done new.epoch → new.phase ≡ phase_after_epoch_word over → new.log.room ≡ old.log.room → (FitsRoom (old.log.entries ++ map leaf_entry new.leaves) old.log.room → new.log.entries ≡ old.log.entries ++ map leaf_entry new.leaves) → ReceivesWord old word new (Leaves over)
+pub took_leaves : (old new : Reception) (word : List ℕ) (over : Bool) → old.phase ≡ Epoch → ((words : List (List ℕ)) → EpochStandsFor old.epoch words → EpochStandsFor new.epoch (words ++ word ∷ []))
+    → ((words : List (List ℕ)) → EpochStandsFor old.epoch words → new.leaves ≡ leaves_at words word) → over ≡ is_done new.epoch → new.phase ≡ phase_after_epoch_word over → new.log.room ≡ old.log.room
+    → (FitsRoom (old.log.entries ++ map leaf_entry new.leaves) old.log.room → new.log.entries ≡ old.log.entries ++ map leaf_entry new.leaves) → ReceivesWord old word new (Leaves over)
 took_leaves old new word over phase stood out done after room put =
     let in_epoch = λ (words : List (List ℕ)) (stands : Receives old words). subst (λ p. InPhase p old.granted old.burst old.epoch (history_of words).begun) phase stands.place in
     record {

@@ -16,7 +16,8 @@ bytes-as (Short times) bytes = refl
 bytes-as Long bytes = refl
 
 -- one more entry fits where there is room for it
-pub fits-push : (entries : List Entry) (kind : Kind) (bytes : List ℕ) (room : ℕ) → FitsRoom (entries ++ entry_as kind bytes ∷ []) room ↔ ((length entries < room) × (bytes_in entries + length bytes ≤ 15 * room))
+pub fits-push : (entries : List Entry) (kind : Kind) (bytes : List ℕ) (room : ℕ)
+    → FitsRoom (entries ++ entry_as kind bytes ∷ []) room ↔ ((length entries < room) × (bytes_in entries + length bytes ≤ 15 * room))
 fits-push entries kind bytes room =
     let count : length (entries ++ entry_as kind bytes ∷ []) ≡ length entries + 1 = length-append entries (entry_as kind bytes ∷ []) in
     let size : bytes_in (entries ++ entry_as kind bytes ∷ []) ≡ bytes_in entries + (length bytes + 0) = bytes_in-append entries (entry_as kind bytes ∷ []) ∙ ap (λ b. bytes_in entries + (length b + 0)) (bytes-as kind bytes) in (
@@ -53,12 +54,14 @@ last-entry bytes more row is =
     ∙ ap (entry_as row.kind) (take_all (length more) more (omega arith))
 
 -- its entry comes behind the others
-pub entries-push : (bytes more : List ℕ) (rows : List Row) (row : Row) (room : ℕ) → AreLaid bytes rows room → Behind bytes more row → entries_of (bytes ++ more) (rows ++ row ∷ []) ≡ entries_of bytes rows ++ entry_as row.kind more ∷ []
+pub entries-push : (bytes more : List ℕ) (rows : List Row) (row : Row) (room : ℕ) → AreLaid bytes rows room → Behind bytes more row
+    → entries_of (bytes ++ more) (rows ++ row ∷ []) ≡ entries_of bytes rows ++ entry_as row.kind more ∷ []
 entries-push bytes more rows row room laid is =
     map-append (entry_at (bytes ++ more)) rows (row ∷ []) ∙ ap₂ (λ es e. es ++ e ∷ []) (all-stay bytes more rows laid.lie) (last-entry bytes more row is)
 
 -- and the rows are laid, where there is room for it
-pub laid-push : (bytes more : List ℕ) (rows : List Row) (row : Row) (room : ℕ) → AreLaid bytes rows room → Behind bytes more row → FitsRoom (entries_of bytes rows ++ entry_as row.kind more ∷ []) room → AreLaid (bytes ++ more) (rows ++ row ∷ []) room
+pub laid-push : (bytes more : List ℕ) (rows : List Row) (row : Row) (room : ℕ) → AreLaid bytes rows room → Behind bytes more row → FitsRoom (entries_of bytes rows ++ entry_as row.kind more ∷ []) room
+    → AreLaid (bytes ++ more) (rows ++ row ∷ []) room
 laid-push bytes more rows row room laid is fits =
     let same = entries-push bytes more rows row room laid is in
     let counted = laid.counted in

@@ -57,7 +57,8 @@ pub none_more : {A : Type 0} → (p : A → Bool) (xs : List A) (i : ℕ) (x : A
 none_more p xs i x is before here = list_any_more p xs i x (slice_get_within xs i x is) ∙ rw (before, get_or_from_slice_get xs i x x is) here
 
 -- the first pending value, or none
-pub value_first : (flag : Bool) (stream : Stream) (value : List ℕ) (shorts : List (List ℕ)) (out : List Leaf) → flag ≡ false → stream.shorts ≡ value ∷ shorts → shorts_of flag stream out ≡ if_any (list_any (is_leaf_of value) out) value
+pub value_first : (flag : Bool) (stream : Stream) (value : List ℕ) (shorts : List (List ℕ)) (out : List Leaf) → flag ≡ false → stream.shorts ≡ value ∷ shorts
+    → shorts_of flag stream out ≡ if_any (list_any (is_leaf_of value) out) value
 value_first flag stream value shorts out unsent first = rw (unsent, first) refl
 
 pub no_value_first : (flag : Bool) (stream : Stream) (out : List Leaf) → flag ≡ false → stream.shorts ≡ [] → shorts_of flag stream out ≡ []

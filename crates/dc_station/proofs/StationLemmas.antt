@@ -109,22 +109,27 @@ no_value : (stream : Stream) (cycle : Cycle) (field : ℕ) (fields : List ℕ) �
 no_value stream cycle field fields left = no-shorts stream cycle (rw left refl)
 
 -- a progress against a history
-sends_at : (progress : Progress) (stream : Stream) (words : List (List ℕ)) (whole : List Cycle) (begun : Option Cycle) → history_of words ≡ record { whole = whole; begun = begun } → left stream progress ≡ left_after stream whole → AreSent progress.short_sent progress.long_sent (left_after stream whole) begun → progress.log.entries ≡ sent_of stream words → SendsFor progress stream words
+sends_at : (progress : Progress) (stream : Stream) (words : List (List ℕ)) (whole : List Cycle) (begun : Option Cycle) → history_of words ≡ record { whole = whole; begun = begun }
+    → left stream progress ≡ left_after stream whole → AreSent progress.short_sent progress.long_sent (left_after stream whole) begun → progress.log.entries ≡ sent_of stream words
+    → SendsFor progress stream words
 sends_at progress stream words whole begun history same sent log = rw history (record { remains = same; sent = sent; log = log })
 
 -- what was sent in the begun cycle
-sent_in : (progress : Progress) (stream : Stream) (words : List (List ℕ)) (begun : Option Cycle) → (history_of words).begun ≡ begun → SendsFor progress stream words → AreSent progress.short_sent progress.long_sent (at_cycle stream words) begun
+sent_in : (progress : Progress) (stream : Stream) (words : List (List ℕ)) (begun : Option Cycle) → (history_of words).begun ≡ begun → SendsFor progress stream words
+    → AreSent progress.short_sent progress.long_sent (at_cycle stream words) begun
 sent_in progress stream words begun is sends = subst (λ b. AreSent progress.short_sent progress.long_sent (at_cycle stream words) b) is sends.sent
 
 -- a reservation word
-sends_reservation : (progress : Progress) (stream : Stream) (words : List (List ℕ)) (word : List ℕ) → (history_of words).begun ≡ None → SendsFor progress stream words → SendsFor progress stream (words ++ word ∷ [])
+sends_reservation : (progress : Progress) (stream : Stream) (words : List (List ℕ)) (word : List ℕ) → (history_of words).begun ≡ None → SendsFor progress stream words
+    → SendsFor progress stream (words ++ word ∷ [])
 sends_reservation progress stream words word none sends =
     let step = reserves stream words word none in
     let flags = sent_in progress stream words None none sends in
     sends_at progress stream (words ++ word ∷ []) (history_of words).whole (Some (opened word)) step.history sends.remains (ap length step.no_short ∙ rw flags.0 refl, ap length step.no_long ∙ rw flags.1 refl) (sends.log ∙ sym step.sent)
 
 -- a word of a burst that gives no message
-sends_nothing_by : (going : Bool) (progress : Progress) (stream : Stream) (words : List (List ℕ)) (word : List ℕ) → (none : CompletesNoMessage words word) → has_ended (burst_of (none.cycle.since ++ word ∷ [])) ≡ going → SendsFor progress stream words → SendsFor progress stream (words ++ word ∷ [])
+sends_nothing_by : (going : Bool) (progress : Progress) (stream : Stream) (words : List (List ℕ)) (word : List ℕ) → (none : CompletesNoMessage words word)
+    → has_ended (burst_of (none.cycle.since ++ word ∷ [])) ≡ going → SendsFor progress stream words → SendsFor progress stream (words ++ word ∷ [])
 sends_nothing_by false progress stream words word none ended sends =
     let cycle = none.cycle in
     let pending = at_cycle stream words in
@@ -144,7 +149,8 @@ sends_nothing_by true progress stream words word none ended sends =
     sends_at progress stream (words ++ word ∷ []) (history_of words).whole (Some (with_ended cycle none.field (cycle.since ++ word ∷ []))) step.history sends.remains (shorts, longs) (sends.log ∙ sym log)
 
 -- a word after which the burst has a message
-sends_message : (old new : Progress) (stream : Stream) (words : List (List ℕ)) (word : List ℕ) (field : ℕ) (reception : Reception) → length words < old.log.room → CompletesMessage field reception.burst words word → HearsMessage stream old field reception.burst new → SendsFor old stream words → SendsFor new stream (words ++ word ∷ [])
+sends_message : (old new : Progress) (stream : Stream) (words : List (List ℕ)) (word : List ℕ) (field : ℕ) (reception : Reception) → length words < old.log.room
+    → CompletesMessage field reception.burst words word → HearsMessage stream old field reception.burst new → SendsFor old stream words → SendsFor new stream (words ++ word ∷ [])
 sends_message old new stream words word field reception left_room effect hears sends =
     let cycle = effect.cycle in
     let pending = at_cycle stream words in
@@ -163,7 +169,9 @@ abbrev further : (words : List (List ℕ)) (word : List ℕ) (over : Bool) (out 
 further words word over out effect = since_then effect.cycle (effect.cycle.since ++ word ∷ [])
 
 -- leaves, before a cycle's end is looked at
-sends_leaves : (old new : Progress) (stream : Stream) (words : List (List ℕ)) (word : List ℕ) (over : Bool) (out : List Leaf) → length words < old.log.room → (effect : IsOfEpoch over out words word) → SendsShort stream old (shorts_of old.short_sent (left stream old) out) new → SendsFor old stream words → Sends stream new (at_cycle stream words) (Some (further words word over out effect)) (sent_of stream (words ++ word ∷ []))
+sends_leaves : (old new : Progress) (stream : Stream) (words : List (List ℕ)) (word : List ℕ) (over : Bool) (out : List Leaf) → length words < old.log.room → (effect : IsOfEpoch over out words word)
+    → SendsShort stream old (shorts_of old.short_sent (left stream old) out) new → SendsFor old stream words
+    → Sends stream new (at_cycle stream words) (Some (further words word over out effect)) (sent_of stream (words ++ word ∷ []))
 sends_leaves old new stream words word over out left_room effect sent sends =
     let cycle = effect.cycle in
     let pending = at_cycle stream words in
@@ -185,7 +193,8 @@ unfolding left_by
 left_less short_sent long_sent stream cycle sent = rw (sent.0, sent.1) refl
 
 -- a word of an epoch
-sends_epoch : (over : Bool) (old new : Progress) (stream : Stream) (words : List (List ℕ)) (word : List ℕ) (out : List Leaf) → length words < old.log.room → IsOfEpoch over out words word → HearsLeaves over stream old out new → SendsFor old stream words → SendsFor new stream (words ++ word ∷ [])
+sends_epoch : (over : Bool) (old new : Progress) (stream : Stream) (words : List (List ℕ)) (word : List ℕ) (out : List Leaf) → length words < old.log.room → IsOfEpoch over out words word
+    → HearsLeaves over stream old out new → SendsFor old stream words → SendsFor new stream (words ++ word ∷ [])
 sends_epoch false old new stream words word out left_room effect hears sends =
     let step = epoch_takes stream words word effect.cycle effect.is effect.left in
     let goes = sends_leaves old new stream words word false out left_room effect hears sends in
@@ -199,30 +208,35 @@ sends_epoch true old new stream words word out left_room effect hears sends =
     sends_at new stream (words ++ word ∷ []) ((history_of words).whole ++ cycle ∷ []) None (step.history ∙ rw (← effect.ended) refl) remains (ends.shorts, ends.longs) (ap (λ l. l.entries) ends.log ∙ goes.log)
 
 -- a word, whatever its effect is
-pub sends_more : (effect : Effect) (old new : Progress) (reception : Reception) (stream : Stream) (words : List (List ℕ)) (word : List ℕ) → length words < old.log.room → IsEffectOf effect reception words word → Hears effect stream old reception new → SendsFor old stream words → SendsFor new stream (words ++ word ∷ [])
+pub sends_more : (effect : Effect) (old new : Progress) (reception : Reception) (stream : Stream) (words : List (List ℕ)) (word : List ℕ) → length words < old.log.room
+    → IsEffectOf effect reception words word → Hears effect stream old reception new → SendsFor old stream words → SendsFor new stream (words ++ word ∷ [])
 sends_more Nothing old new reception stream words word left_room (inl none) hears sends = rw hears (sends_reservation old stream words word none sends)
 sends_more Nothing old new reception stream words word left_room (inr none) hears sends = rw hears (sends_nothing_by (has_ended (burst_of (none.cycle.since ++ word ∷ []))) old stream words word none refl sends)
 sends_more (Message field) old new reception stream words word left_room effect hears sends = sends_message old new stream words word field reception left_room effect hears sends
 sends_more (Leaves over) old new reception stream words word left_room effect hears sends = sends_epoch over old new stream words word reception.leaves left_room effect hears sends
 
 -- a progress of which nothing was sent
-pub sends_none : (progress : Progress) (stream : Stream) → left stream progress ≡ stream → progress.short_sent ≡ false → progress.long_sent ≡ false → progress.log.entries ≡ [] → SendsFor progress stream []
+pub sends_none : (progress : Progress) (stream : Stream) → left stream progress ≡ stream → progress.short_sent ≡ false → progress.long_sent ≡ false → progress.log.entries ≡ []
+    → SendsFor progress stream []
 unfolding history_of sent_of
 sends_none progress stream same no_short no_long none = record { remains = same; sent = (no_short, no_long); log = none }
 
 -- how much is pending
-pending_by : (stream : Stream) (whole : List Cycle) (begun : Option Cycle) (short_sent long_sent : Bool) → AreSent short_sent long_sent (left_after stream whole) begun → left_after stream (whole ++ option_to_list begun) ≡ record { shorts = drop (one_if short_sent) (left_after stream whole).shorts; longs = drop (one_if long_sent) (left_after stream whole).longs; coins = (left_after stream (whole ++ option_to_list begun)).coins }
+pending_by : (stream : Stream) (whole : List Cycle) (begun : Option Cycle) (short_sent long_sent : Bool) → AreSent short_sent long_sent (left_after stream whole) begun
+    → left_after stream (whole ++ option_to_list begun) ≡ record { shorts = drop (one_if short_sent) (left_after stream whole).shorts; longs = drop (one_if long_sent) (left_after stream whole).longs; coins = (left_after stream (whole ++ option_to_list begun)).coins }
 pending_by stream whole None short_sent long_sent sent = rw (append-nil whole, sent.0, sent.1) refl
 pending_by stream whole (Some cycle) short_sent long_sent sent = rw (left_after-push stream whole cycle, left_less short_sent long_sent (left_after stream whole) cycle sent) refl
 
-pub pending_left : (progress : Progress) (stream : Stream) (words : List (List ℕ)) → SendsFor progress stream words → (drop (one_if progress.short_sent) (left stream progress).shorts ≡ (pending_of stream words).shorts) × (drop (one_if progress.long_sent) (left stream progress).longs ≡ (pending_of stream words).longs)
+pub pending_left : (progress : Progress) (stream : Stream) (words : List (List ℕ)) → SendsFor progress stream words
+    → (drop (one_if progress.short_sent) (left stream progress).shorts ≡ (pending_of stream words).shorts) × (drop (one_if progress.long_sent) (left stream progress).longs ≡ (pending_of stream words).longs)
 unfolding pending_of
 pending_left progress stream words sends =
     let is = pending_by stream (history_of words).whole (history_of words).begun progress.short_sent progress.long_sent sends.sent in
     (ap (λ s. drop (one_if progress.short_sent) s.shorts) sends.remains ∙ sym (ap (λ s. s.shorts) is), ap (λ s. drop (one_if progress.long_sent) s.longs) sends.remains ∙ sym (ap (λ s. s.longs) is))
 
 -- the word at a place is the plain word
-plain_at : (progress : Progress) (stream : Stream) (words : List (List ℕ)) → SendsFor progress stream words → word_for (left stream progress) (place_in (history_of words).begun) ≡ plain_word stream words
+plain_at : (progress : Progress) (stream : Stream) (words : List (List ℕ)) → SendsFor progress stream words
+    → word_for (left stream progress) (place_in (history_of words).begun) ≡ plain_word stream words
 unfolding plain_word
 plain_at progress stream words sends = ap (λ s. word_for s (place_in (history_of words).begun)) sends.remains
 
@@ -237,21 +251,25 @@ epoch_place epoch begun at =
     let now : place_in (Some at.cycle) ≡ in_epoch at.cycle.since = rw at.left refl in
     ap place_in at.is ∙ now
 
-pub plain_reservation : (reception : Reception) (progress : Progress) (stream : Stream) (words : List (List ℕ)) → reception.phase ≡ Reserve → Receives reception words → SendsFor progress stream words → mark_word (marked (left stream progress)) ≡ plain_word stream words
+pub plain_reservation : (reception : Reception) (progress : Progress) (stream : Stream) (words : List (List ℕ)) → reception.phase ≡ Reserve → Receives reception words → SendsFor progress stream words
+    → mark_word (marked (left stream progress)) ≡ plain_word stream words
 unfolding word_for
 plain_reservation reception progress stream words phase stands sends =
     let none = subst (λ p. InPhase p reception.granted reception.burst reception.epoch (history_of words).begun) phase stands.place in
     let place : place_in (history_of words).begun ≡ at_reservation = rw none refl in
     sym (ap (λ p. word_for (left stream progress) p) place) ∙ plain_at progress stream words sends
 
-pub plain_burst : (reception : Reception) (progress : Progress) (stream : Stream) (words : List (List ℕ)) (field index : ℕ) → reception.phase ≡ Burst field index → Receives reception words → SendsFor progress stream words → burst_word (marked (left stream progress)) field (left stream progress).longs index ≡ plain_word stream words
+pub plain_burst : (reception : Reception) (progress : Progress) (stream : Stream) (words : List (List ℕ)) (field index : ℕ) → reception.phase ≡ Burst field index → Receives reception words
+    → SendsFor progress stream words → burst_word (marked (left stream progress)) field (left stream progress).longs index ≡ plain_word stream words
 unfolding word_for
 plain_burst reception progress stream words field index phase stands sends =
     let burst = subst (λ p. InPhase p reception.granted reception.burst reception.epoch (history_of words).begun) phase stands.place in
     let place = burst_place field index reception.granted reception.burst (history_of words).begun burst in
     ap (λ i. burst_word (marked (left stream progress)) field (left stream progress).longs i) burst.counted ∙ (sym (ap (λ p. word_for (left stream progress) p) place) ∙ plain_at progress stream words sends)
 
-pub plain_epoch : (reception : Reception) (progress : Progress) (stream : Stream) (words : List (List ℕ)) (word : List ℕ) → reception.phase ≡ Epoch → ((since : List (List ℕ)) → EpochStandsFor reception.epoch since → word ≡ epoch_word (left stream progress).shorts (epoch_of since)) → Receives reception words → SendsFor progress stream words → word ≡ plain_word stream words
+pub plain_epoch : (reception : Reception) (progress : Progress) (stream : Stream) (words : List (List ℕ)) (word : List ℕ) → reception.phase ≡ Epoch
+    → ((since : List (List ℕ)) → EpochStandsFor reception.epoch since → word ≡ epoch_word (left stream progress).shorts (epoch_of since)) → Receives reception words → SendsFor progress stream words
+    → word ≡ plain_word stream words
 unfolding word_for
 plain_epoch reception progress stream words word phase is stands sends =
     let epoch = subst (λ p. InPhase p reception.granted reception.burst reception.epoch (history_of words).begun) phase stands.place in

@@ -147,7 +147,8 @@ fn place_from(granted: &Fields, from: u8, epoch: &mut Epoch) -> Phase
 fn begin(burst: &mut Burst, index: u16)
     requires { 1 ≤ index → IsGoing burst.old.phase }
     ensures going { IsGoing burst.new.phase }
-    ensures stands { (words : List (List ℕ)) → index ≡ length words → IsBegun index burst.old words →
+    ensures stands { (words : List (List ℕ)) → index ≡ length words →
+        IsBegun index burst.old words →
         BurstStandsFor burst.new words }
 {
     if index == 0 {

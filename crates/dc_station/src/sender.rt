@@ -59,7 +59,8 @@ impl Sender {
 
     /// The word that a station with this stream and this receiver sends next, before its keys are added.
     pub fn plain(&self, stream: &Stream, receiver: &Receiver) -> Word
-        ensures { (total : ℕ) (words : List (List ℕ)) → SenderStandsFor self.now stream.now total words →
+        ensures { (total : ℕ) (words : List (List ℕ)) →
+            SenderStandsFor self.now stream.now total words →
             ReceiverStandsFor receiver.now total words → result ≡ plain_word stream.now words }
     {
         let kept = receiver.kept();
@@ -103,7 +104,8 @@ impl Sender {
     /// How many entries of the stream are pending.
     pub fn pending(&self, stream: &Stream) -> Pending
         requires { IsSenderOf self.now stream.now }
-        ensures { (total : ℕ) (words : List (List ℕ)) → SenderStandsFor self.now stream.now total words →
+        ensures { (total : ℕ) (words : List (List ℕ)) →
+            SenderStandsFor self.now stream.now total words →
             (result.shorts, result.longs) ≡ pending_counts stream.now words }
     {
         self.progress.pending(stream)

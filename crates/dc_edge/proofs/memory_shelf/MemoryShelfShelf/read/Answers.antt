@@ -18,10 +18,12 @@ answer-is-no-want None limit e = cc
 answer-is-no-want (Some bytes) limit e = choice-is-answer (nat_le (length bytes) limit) bytes e
 
 -- the new book beside the answer that is due is the read's
-read_of-due : (book : ShelfBook) (name : List ℕ) (limit : ℕ) (now : ShelfBook) (answer : Result (List ℕ) ShelfFault) → answer ≡ answer_of (held_bytes book.files name) limit → list_any (λ n. n == book.calls) book.fails ≡ false → now ≡ book_asked book name → (now, answer) ≡ read_of book name limit
+read_of-due : (book : ShelfBook) (name : List ℕ) (limit : ℕ) (now : ShelfBook) (answer : Result (List ℕ) ShelfFault) → answer ≡ answer_of (held_bytes book.files name) limit
+    → list_any (λ n. n == book.calls) book.fails ≡ false → now ≡ book_asked book name → (now, answer) ≡ read_of book name limit
 read_of-due book name limit now answer due lives after = rw (lives, due, after)
 
-ReadsBook-due : (book : ShelfBook) (name : List ℕ) (limit : ℕ) (now : ShelfBook) (answer : Result (List ℕ) ShelfFault) → answer ≡ answer_of (held_bytes book.files name) limit → list_any (λ n. n == book.calls) book.fails ≡ false → now ≡ book_asked book name → ReadsBook name limit book now answer
+ReadsBook-due : (book : ShelfBook) (name : List ℕ) (limit : ℕ) (now : ShelfBook) (answer : Result (List ℕ) ShelfFault) → answer ≡ answer_of (held_bytes book.files name) limit
+    → list_any (λ n. n == book.calls) book.fails ≡ false → now ≡ book_asked book name → ReadsBook name limit book now answer
 ReadsBook-due book name limit now (Ok bytes) due lives after = read_of-due book name limit now _ due lives after
 ReadsBook-due book name limit now (Err Missing) due lives after = read_of-due book name limit now _ due lives after
 ReadsBook-due book name limit now (Err TooLong) due lives after = read_of-due book name limit now _ due lives after

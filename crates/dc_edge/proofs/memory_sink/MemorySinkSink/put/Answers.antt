@@ -7,7 +7,8 @@ use Rattle.dc_edge.specs.Sink.{Puts}
 use Rattle.dc_edge.proofs.memory_sink.MemorySinkSink.put.Goals as goal
 
 -- a front was appended and the count rose
-Puts-failed : (bytes : List ℕ) (n : ℕ) (before after : SinkState) (e : Failed) → bytes ≢ [] → after.written ≡ grown before.written (take n bytes) → before.faults ≤ after.faults → Rose before.faults after.faults → Puts bytes before after (Err e)
+Puts-failed : (bytes : List ℕ) (n : ℕ) (before after : SinkState) (e : Failed) → bytes ≢ [] → after.written ≡ grown before.written (take n bytes) → before.faults ≤ after.faults
+    → Rose before.faults after.faults → Puts bytes before after (Err e)
 Puts-failed bytes n before after e more took counted rose = record {
   counted = counted;
   answer = ((take n bytes, (drop n bytes, grind (arith, common_steps)), took), rose);
