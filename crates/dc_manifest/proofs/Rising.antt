@@ -14,8 +14,8 @@ use Rattle.dc_spec.proofs.Options.{map-none}
 use Rattle.dc_field.proofs.Positions.{fails_where_none}
 use Rattle.dc_graph.specs.declared.fault.GraphFault.TheVariants.{Stations}
 use Rattle.dc_graph.specs.declared.fault.MemberFault.{MemberFault}
-use Rattle.dc_graph.specs.Graph.{PlainGraph, IsEdge, IsBefore}
-use Rattle.dc_graph.specs.Faults.{told_place, joins, stands_in, pair_at, is_faulty_pair, pair_fault, first_pair_fault, graph_fault, is_faulty_member, member_fault, Keeps, KeepsMembers}
+use Rattle.dc_graph.specs.Graph.{PlainGraph, IsEdge, IsEdgeBefore}
+use Rattle.dc_graph.specs.Faults.{reported_place, joins, is_listed, pair_at, is_faulty_pair, pair_fault, first_pair_fault, graph_fault, is_faulty_member, member_fault, Keeps, KeepsMembers}
 use Rattle.dc_manifest.specs.Reading.{pair_number, rising_edges, rising_members}
 
 -- items that a rising list of numbers from low to high gives
@@ -77,14 +77,14 @@ are_edges n es none =
     let found : position (is_faulty_pair n es) (range_with_len 0 (length es)) ≡ None = map-none (pair_fault n es) _ (no_station_fault (leb 1 n && leb n 256) (first_pair_fault n es) (Stations n) none) in
     All-from_get_or (IsEdge n) es (0, 0) (λ k lt.
     let e = pair_at es k in
-    let parts = or_parts (not (joins n e)) (stands_in (take k es) e) (clear (is_faulty_pair n es) (length es) found k lt) in
+    let parts = or_parts (not (joins n e)) (is_listed (take k es) e) (clear (is_faulty_pair n es) (length es) found k lt) in
     let ends = and_parts (ltb e.0 e.1) (ltb e.1 n) (not-false (joins n e) parts.0) in
     record { ends = ltb-true e.0 e.1 ends.0; within = ltb-true e.1 n ends.1 })
 
 -- a list of members without a fault has stations alone
 are_stations : (n : ℕ) (ms : List ℕ) → member_fault n ms ≡ None → All (λ m. m < n) ms
 are_stations n ms none =
-    let found : position (is_faulty_member n ms) (range_with_len 0 (length ms)) ≡ None = map-none (λ (i : ℕ). let fault : MemberFault = record { place = told_place i } in fault) _ none in
+    let found : position (is_faulty_member n ms) (range_with_len 0 (length ms)) ≡ None = map-none (λ (i : ℕ). let fault : MemberFault = record { place = reported_place i } in fault) _ none in
     All-from_get_or (λ (m : ℕ). m < n) ms 0 (λ k lt.
     let parts = or_parts (leb n (get_or ms k 0)) (is_among (take k ms) (get_or ms k 0)) (clear (is_faulty_member n ms) (length ms) found k lt) in
     leb-false n (get_or ms k 0) parts.0)
@@ -118,7 +118,7 @@ abbrev number_of : ℕ → ℕ × ℕ → ℕ
 number_of n e = e.0 * n + e.1
 
 -- a pair stands among others where its number does
-stands_by_number : (n low : ℕ) (es : List (ℕ × ℕ)) → Lies (number_of n) (pair_number n) low (n * n) es → (i : ℕ) → stands_in es (pair_number n i) ≡ list_any (λ e. eqb i (number_of n e)) es
+stands_by_number : (n low : ℕ) (es : List (ℕ × ℕ)) → Lies (number_of n) (pair_number n) low (n * n) es → (i : ℕ) → is_listed es (pair_number n i) ≡ list_any (λ e. eqb i (number_of n e)) es
 stands_by_number n low [] l i = refl
 stands_by_number n low (e ∷ es) l i =
     let (least, most, given, rest) = l in
@@ -146,8 +146,8 @@ edges_kept n es g keeps =
     let within = edge.within in
     (mul-add-lt e.0 n e.1 n (omega arith) within, rw (div-mul-add e.0 n e.1 within, mod-mul-add e.0 n e.1 within) refl) in
     let up : (i : ℕ) → suc i < length kept → number_of n (get_or kept i (0, 0)) < number_of n (get_or kept (suc i) (0, 0)) = λ i lt.
-    let before = subst (λ k. IsBefore (get_or kept i (0, 0)) (get_or kept k (0, 0))) (add-one i) (keeps.rising i (0, 0) (omega arith)) in
+    let before = subst (λ k. IsEdgeBefore (get_or kept i (0, 0)) (get_or kept k (0, 0))) (add-one i) (keeps.rising i (0, 0) (omega arith)) in
     number_rises n (get_or kept i (0, 0)) (get_or kept (suc i) (0, 0)) (edges i (0, 0) (omega arith)).within before.lesser before.greater in
     let lie = lies (number_of n) (pair_number n) 0 (n * n) kept (0, 0) (λ _. omega arith) each up in
-    picked (number_of n) (pair_number n) (stands_in es) kept (n * n) 0 (n * n) (omega arith) lie (λ i above below.
+    picked (number_of n) (pair_number n) (is_listed es) kept (n * n) 0 (n * n) (omega arith) lie (λ i above below.
     list_any-IsPermutation (λ (f : ℕ × ℕ). eqb f.0 (i / n) && eqb f.1 (i % n)) es kept keeps.same_edges ∙ stands_by_number n 0 kept lie i)

@@ -8,7 +8,7 @@ use Rattle.dc_spec.specs.Lists.{is_among}
 use Rattle.dc_spec.specs.Limits.{most_words, most_pads}
 use Rattle.dc_graph.specs.declared.fault.MemberFault.{MemberFault}
 use Rattle.dc_graph.specs.declared.fault.GraphFault.{GraphFault}
-use Rattle.dc_graph.specs.Faults.{graph_fault, member_fault, stands_in}
+use Rattle.dc_graph.specs.Faults.{graph_fault, member_fault, is_listed}
 use Rattle.dc_manifest.specs.declared.fault.ManifestFault.{ManifestFault}
 use Rattle.dc_manifest.specs.declared.fault.ManifestFault.TheVariants.{Toml, Unknown, Field, Range, Graph, Member, TooLarge}
 use Rattle.dc_graph.specs.Graph.{PlainGraph}
@@ -61,7 +61,7 @@ abbrev pub pair_number : ℕ → ℕ → ℕ × ℕ
 pair_number n k = (k / n, k % n)
 
 abbrev pub rising_edges : ℕ → List (ℕ × ℕ) → List (ℕ × ℕ)
-rising_edges n edges = filter (stands_in edges) (map (pair_number n) (range_with_len 0 (n * n)))
+rising_edges n edges = filter (is_listed edges) (map (pair_number n) (range_with_len 0 (n * n)))
 
 -- the key graph of these edges, where they have no fault
 abbrev pub graph_of : ℕ → List (ℕ × ℕ) → Option GraphFault → Result PlainGraph ManifestFault
