@@ -17,6 +17,7 @@ const ZEROS: &[u8; 81] =
     b"00000000000000000000000000000000000000000000000000000000000000000000000000000000\n";
 
 /// The objects of a call: the bytes of `t.bin`, and the rooms of both sinks.
+#[derive(Clone, Copy)]
 struct Given<'a> {
     file: &'a [u8],
     shelf_fails: &'a [u32],
@@ -25,6 +26,7 @@ struct Given<'a> {
 }
 
 /// How a call is to end.
+#[derive(Clone, Copy)]
 struct Due<'a> {
     status: u8,
     out: &'a [u8],
