@@ -6,11 +6,8 @@ ghost use Rattle.dc_spec.specs.Lists.{is_among};
 ghost use Rattle.dc_graph.specs.Faults.{reported_place, joins, is_faulty_member, first_pair_fault, graph_fault as graph_fault_of, member_fault as member_fault_of};
 
 use crate::fault::{GraphFault, MemberFault};
-use dc_field::NoMemory;
+use dc_field::{MOST_STATIONS, NoMemory};
 use std::alloc::Global;
-
-/// How many stations a key graph has at most.
-const MOST_STATIONS: u16 = 256;
 
 /// The first fault of a number of stations and a list of pairs. A table with a flag for each two
 /// stations shows which pairs came before, so each pair is looked at once.

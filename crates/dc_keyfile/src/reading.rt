@@ -9,18 +9,9 @@ ghost use Rattle.dc_field.specs.Answers.{Answers};
 ghost use Rattle.dc_keyfile.specs.Reading.{pair_size, due_length, piece_at, ends_of, are_ends, is_before, is_rising, pads_of, padded, pair_of, pairs_of, keys_after_head, keys_with_head, keys_from_bytes};
 
 use crate::fault::KeyFault;
-use dc_field::{Refusal, Syms};
+use dc_field::{MOST_PADS, MOST_STATIONS, MOST_WORDS, Refusal, Syms};
 use dc_keys::{KeyFile, PairKey, Pairs};
 use std::alloc::Global;
-
-/// How many stations a key file has at most.
-const MOST_STATIONS: u16 = 256;
-
-/// How many words a key file has pads for at most.
-const MOST_WORDS: u16 = 4096;
-
-/// How many first and second pads a key file has at most, all pairs together.
-const MOST_PADS: u64 = 67108864;
 
 /// The keys that the bytes of a key file spell, or the first fault.
 ///
@@ -78,7 +69,7 @@ fn read_sized(
         return Err(Refusal::Bad(KeyFault::Words { seen: words }));
     }
     let symbols = u64::from(count) * (32 * u64::from(words));
-    if MOST_PADS < symbols {
+    if (MOST_PADS as u64) < symbols {
         return Err(Refusal::Bad(KeyFault::TooLarge { symbols }));
     }
     read_body(alloc, b, stations, words, count as usize)

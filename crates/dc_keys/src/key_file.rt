@@ -4,7 +4,7 @@ ghost use Rattle.std.specs.Prelude.{◌≡◌, ◌↔◌, IsTrue, IfOk, SomeIff}
 ghost use Rattle.dc_formats.specs.KeyFile.{IsKeys, IsPair, IsPairBefore};
 
 use crate::pair_key::{PairKey, Pairs};
-use dc_field::NoMemory;
+use dc_field::{MOST_PADS, MOST_STATIONS, MOST_WORDS, NoMemory};
 use std::alloc::Global;
 use std::marker::Model;
 
@@ -65,10 +65,10 @@ impl KeyFile {
 fn are_keys(stations: u16, words: u16, pairs: &[PairKey]) -> bool
     ensures { IsTrue result ↔ IsKeys (record { stations = stations; words = words; pairs = pairs.now }) }
 {
-    if stations < 1 || 256 < stations || words < 1 || 4096 < words {
+    if stations < 1 || MOST_STATIONS < stations || words < 1 || MOST_WORDS < words {
         return false;
     }
-    if (1 << 26) / (32 * usize::from(words)) < pairs.len() {
+    if MOST_PADS / (32 * usize::from(words)) < pairs.len() {
         return false;
     }
     for i in 0..pairs.len() {

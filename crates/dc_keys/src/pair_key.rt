@@ -4,7 +4,7 @@ ghost use Rattle.std.specs.Prelude.{◌≡◌, ◌↔◌, ℕ, IsTrue, IfOk, Som
 ghost use Rattle.dc_spec.specs.Words.{IsSymbol};
 ghost use Rattle.dc_keys.specs.Pads.{IsPairKey};
 
-use dc_field::{Items, NoMemory, Syms, TryClone};
+use dc_field::{Items, MOST_WORDS, NoMemory, Syms, TryClone};
 use std::alloc::Global;
 use std::marker::Model;
 
@@ -79,5 +79,9 @@ fn are_pads(a: &[u32], b: &[u32]) -> bool
     ensures { (u v : ℕ) → IsTrue result ↔ IsPairKey (record { u = u; v = v; a = a.now; b = b.now }) }
 {
     let words = a.len() / 16;
-    1 <= words && words <= 4096 && a.len() == 16 * words && b.len() == a.len() && b[0] == 0
+    1 <= words
+        && words <= usize::from(MOST_WORDS)
+        && a.len() == 16 * words
+        && b.len() == a.len()
+        && b[0] == 0
 }

@@ -3,8 +3,8 @@ use Rattle.std.specs.Prelude.{ℕ, ◌*◌, ◌<◌, ◌≤◌, ◌≡◌, List,
 use Rattle.dc_spec.specs.Limits.{most_words, most_pads}
 use Rattle.dc_graph.specs.Graph.{PlainGraph, IsGraph, AreMembers}
 
--- the key graph, the members of the coalition in rising order, how many words a session has, and the names of the files: of
--- the keys, of a stream for each station (empty where the station has none), and of the script, if there is one
+-- the key graph, the members of the coalition in rising order, how many words a session has, and the names of the
+-- files: the key file, a stream for each station (empty where the station has none), and the script, if there is one
 pub record Content : Type 0 where
   pub graph : PlainGraph
   pub coalition : List ℕ

@@ -31,7 +31,9 @@ as_pair d = option_and_then two_of (array_of as_integer d)
 
 -- the names of all fields, and of those that are required, in byte order
 abbrev pub known : List (List ℕ)
-known = codes "coalition" ∷ codes "edges" ∷ codes "keys" ∷ codes "script" ∷ codes "stations" ∷ codes "streams" ∷ codes "words" ∷ []
+known =
+    codes "coalition" ∷ codes "edges" ∷ codes "keys" ∷ codes "script" ∷ codes "stations" ∷ codes "streams" ∷
+    codes "words" ∷ []
 
 abbrev pub required : List (List ℕ)
 required = codes "edges" ∷ codes "keys" ∷ codes "stations" ∷ codes "streams" ∷ codes "words" ∷ []
@@ -90,4 +92,12 @@ values_of ms =
     needed as_integer (codes "stations") ms >>= λ stations.
     needed (array_of as_str) (codes "streams") ms >>= λ streams.
     needed as_integer (codes "words") ms >>= λ words.
-    Ok (record { coalition = unwrap_or coalition []; edges = edges; keys = keys; script = script; stations = stations; streams = streams; words = words })
+    Ok (record {
+      coalition = unwrap_or coalition [];
+      edges = edges;
+      keys = keys;
+      script = script;
+      stations = stations;
+      streams = streams;
+      words = words;
+    })

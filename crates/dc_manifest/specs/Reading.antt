@@ -35,7 +35,9 @@ each read (x ∷ xs) = read x >>= λ y. each read xs >>= λ ys. Ok (y ∷ ys)
 
 -- the number of stations, where there are as many streams
 abbrev pub with_streams : ℕ → ℕ → Result ℕ ManifestFault
-with_streams stations count = if count == stations then Ok stations else Err (Range (codes "streams") (pos (min count (2 ^ 63 - 1))))
+with_streams stations count =
+    if count == stations then Ok stations
+    else Err (Range (codes "streams") (pos (min count (2 ^ 63 - 1))))
 
 -- a key graph and its coalition as they are given, and how many words a session has
 pub record GivenNumbers : Type 0 where
@@ -77,7 +79,8 @@ coalition_of n members None = Ok (rising_members n members)
 
 -- the number of words, where the pads of so many edges are not too many
 abbrev pub sized : ℕ → ℕ → Result ℕ ManifestFault
-sized edges words = if nat_lt most_pads (edges * 32 * words) then Err (TooLarge (edges * 32 * words)) else Ok words
+sized edges words =
+    if nat_lt most_pads (edges * 32 * words) then Err (TooLarge (edges * 32 * words)) else Ok words
 
 -- the content of values, or the first fault of their numbers
 unfoldable pub content_of : FieldValues → Result Content ManifestFault
@@ -86,7 +89,14 @@ content_of values =
     graph_of numbers.stations numbers.edges (graph_fault numbers.stations numbers.edges) >>= λ graph.
     coalition_of numbers.stations numbers.coalition (member_fault numbers.stations numbers.coalition) >>= λ coalition.
     sized (length graph.edges) numbers.words >>= λ words.
-    Ok (record { graph = graph; coalition = coalition; words = words; keys = values.keys; streams = values.streams; script = values.script })
+    Ok (record {
+      graph = graph;
+      coalition = coalition;
+      words = words;
+      keys = values.keys;
+      streams = values.streams;
+      script = values.script;
+    })
 
 -- a table without unknown fields, and one with all required fields
 abbrev pub without_unknown : Members → Option (List ℕ) → Result Members ManifestFault

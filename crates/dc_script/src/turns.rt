@@ -13,11 +13,8 @@ use crate::fault::ScriptKind;
 use crate::item::Item;
 use crate::round::{Round, Rounds};
 use crate::said::{Dealt, Said};
-use dc_field::Refusal;
+use dc_field::{MOST_WORDS, Refusal};
 use std::alloc::Global;
-
-/// How many rounds a script has at most.
-const MOST_ROUNDS: usize = 4096;
 
 /// The rounds with one more line.
 pub(crate) fn with_item(
@@ -49,7 +46,7 @@ fn with_round(alloc: Global, rounds: Rounds, number: u32) -> Result<Rounds, Refu
             due: reported_count(items.len()),
         }));
     }
-    if MOST_ROUNDS <= items.len() {
+    if usize::from(MOST_WORDS) <= items.len() {
         return Err(Refusal::Bad(ScriptKind::TooMany));
     }
     items.push(begun_round(alloc))?;

@@ -11,21 +11,9 @@ ghost use Rattle.dc_stream.specs.ReadingByLists.{lists_with_coin, lists_with_lin
 
 use crate::fault::{StreamFault, StreamKind};
 use crate::stream::Stream;
-use dc_field::{Refusal, Value, read_decimal};
+use dc_field::{MOST_COINS, MOST_LONGS, MOST_MESSAGE, MOST_SHORTS, Refusal, Value, read_decimal};
 use dc_text::{Digits, Lines, decode_payload, payload_bytes, payload_length};
 use std::alloc::Global;
-
-/// How many shorts a stream has at most.
-const MOST_SHORTS: usize = 4096;
-
-/// How many longs a stream has at most.
-const MOST_LONGS: usize = 256;
-
-/// How many coins a stream has at most.
-const MOST_COINS: usize = 4096;
-
-/// How many bytes a long has at most.
-const MOST_MESSAGE: usize = 3838;
 
 /// The stream that the bytes of a stream file spell, or the first fault.
 ///
