@@ -1,6 +1,7 @@
 //! Sessions of single stations: what each sends, what it receives, and what it knows.
 
 /// A session of one station.
+#[derive(Drop)]
 pub(crate) struct Session {
     pub(crate) name: &'static str,
     /// Its stream, as a stream file.
@@ -12,8 +13,7 @@ pub(crate) struct Session {
     pub(crate) lines: &'static str,
 }
 
-/// Sessions worked by hand; all that is known is compared after each word.
-pub(crate) static WORKED: [Session; 14] = [
+pub(crate) fn worked_0() -> Session {
     Session {
         name: "a collision: the station that marks the field again by its next coin",
         stream: "long aa
@@ -35,7 +35,10 @@ log long bb
 pending 0 0
 epoch 0 0
 pending 0 0",
-    },
+    }
+}
+
+pub(crate) fn worked_1() -> Session {
     Session {
         name: "a collision: the station that marks another field",
         stream: "long bb
@@ -57,7 +60,10 @@ sent long bb
 pending 0 0
 epoch 0 0
 pending 0 0",
-    },
+    }
+}
+
+pub(crate) fn worked_2() -> Session {
     Session {
         name: "a collision: a station that listens",
         stream: "",
@@ -75,7 +81,10 @@ log long bb
 pending 0 0
 epoch 0 0
 pending 0 0",
-    },
+    }
+}
+
+pub(crate) fn worked_3() -> Session {
     Session {
         name: "a void burst of two messages: the first sender",
         stream: "long 01
@@ -89,7 +98,10 @@ epoch 0 0
 pending 0 1
 reserve 0 0
 pending 0 1",
-    },
+    }
+}
+
+pub(crate) fn worked_4() -> Session {
     Session {
         name: "a void burst of two messages: the second sender",
         stream: "long 02
@@ -103,7 +115,10 @@ epoch 0 0
 pending 0 1
 reserve 0 0
 pending 0 1",
-    },
+    }
+}
+
+pub(crate) fn worked_5() -> Session {
     Session {
         name: "an epoch void by a part of count 0: the lower value",
         stream: "short 000000000000000000000000000001
@@ -118,7 +133,10 @@ reserve 0 0
 pending 1 0
 epoch 00001000000000000000000000000000000000000000000000000000000000000000000000000001 00002000000000000000000000000000000000000000000000000000000000000000000000000004
 pending 1 0",
-    },
+    }
+}
+
+pub(crate) fn worked_6() -> Session {
     Session {
         name: "an epoch void by a part of count 0: the higher value",
         stream: "short 000000000000000000000000000003
@@ -133,7 +151,10 @@ reserve 0 0
 pending 1 0
 epoch 00001000000000000000000000000000000000000000000000000000000000000000000000000003 00002000000000000000000000000000000000000000000000000000000000000000000000000004
 pending 1 0",
-    },
+    }
+}
+
+pub(crate) fn worked_7() -> Session {
     Session {
         name: "an epoch void by a part of count 3 of 2: the lower value",
         stream: "short 000000000000000000000000000001
@@ -148,7 +169,10 @@ reserve 0 0
 pending 1 0
 epoch 00001000000000000000000000000000000000000000000000000000000000000000000000000001 00002000000000000000000000000000000000000000000000000000000000000000000000000004
 pending 1 0",
-    },
+    }
+}
+
+pub(crate) fn worked_8() -> Session {
     Session {
         name: "an epoch void by a part of count 3 of 2: the higher value",
         stream: "short 000000000000000000000000000003
@@ -163,7 +187,10 @@ reserve 0 0
 pending 1 0
 epoch 00001000000000000000000000000000000000000000000000000000000000000000000000000003 00002000000000000000000000000000000000000000000000000000000000000000000000000004
 pending 1 0",
-    },
+    }
+}
+
+pub(crate) fn worked_9() -> Session {
     Session {
         name: "an epoch void after a leaf: the station of the leaf",
         stream: "short 000000000000000000000000000001
@@ -183,7 +210,10 @@ reserve 0 0
 pending 1 0
 epoch 00001000000000000000000000000000000000000000000000000000000000000000000000000003 0
 pending 1 0",
-    },
+    }
+}
+
+pub(crate) fn worked_10() -> Session {
     Session {
         name: "an epoch void after a leaf: another station",
         stream: "short 000000000000000000000000000003
@@ -201,7 +231,10 @@ reserve 0 0
 pending 1 0
 epoch 00001000000000000000000000000000000000000000000000000000000000000000000000000003 0
 pending 1 0",
-    },
+    }
+}
+
+pub(crate) fn worked_11() -> Session {
     Session {
         name: "a message that came back as another one",
         stream: "long aa
@@ -214,7 +247,10 @@ log long bb
 pending 0 1
 epoch 0 0
 pending 0 1",
-    },
+    }
+}
+
+pub(crate) fn worked_12() -> Session {
     Session {
         name: "two leaves with their values exchanged: the lower value",
         stream: "short 000000000000000000000000000001
@@ -231,7 +267,10 @@ reserve 0 0
 pending 1 0
 epoch 00001000000000000000000000000000000000000000000000000000000000000000000000000001 0
 pending 1 0",
-    },
+    }
+}
+
+pub(crate) fn worked_13() -> Session {
     Session {
         name: "two leaves with their values exchanged: the higher value",
         stream: "short 000000000000000000000000000003
@@ -248,11 +287,10 @@ reserve 0 0
 pending 1 0
 epoch 00001000000000000000000000000000000000000000000000000000000000000000000000000003 0
 pending 1 0",
-    },
-];
+    }
+}
 
-/// Sessions of an independent implementation; all that is known is compared at the end.
-pub(crate) static OTHERS: [Session; 12] = [
+pub(crate) fn other_0() -> Session {
     Session {
         name: "a message and a value at once",
         stream: "short 000000000000000000000000000000
@@ -269,7 +307,10 @@ log short 1 000000000000000000000000000000
 sent long 671003c33c7edb8b71ce525bcd
 sent short 1 000000000000000000000000000000
 pending 0 1",
-    },
+    }
+}
+
+pub(crate) fn other_1() -> Session {
     Session {
         name: "a message, and then no coin for the next",
         stream: "long 5f
@@ -292,7 +333,10 @@ log short 1 000000000000000000000000000000
 log short 1 2868230540afd286a2df0e911afd76
 sent long 5f
 pending 0 1",
-    },
+    }
+}
+
+pub(crate) fn other_2() -> Session {
     Session {
         name: "a message of two fragments and an empty one that has no coin",
         stream: "short 430a28cc44f7d46af8575e48300906
@@ -320,7 +364,10 @@ sent short 1 430a28cc44f7d46af8575e48300906
 sent short 1 000000000000000000000000000001
 sent short 1 000000000000000000000000000000
 pending 0 1",
-    },
+    }
+}
+
+pub(crate) fn other_3() -> Session {
     Session {
         name: "messages of others, one with a fragment void by its count",
         stream: "long 7f32077129d38fd1b2e6746227eda4aee565d085
@@ -339,7 +386,10 @@ log short 1 000000000000000000000000000003
 log short 1 000000000000000000000000000100
 log long ed53899bd8be2e12de42adaa8346
 pending 0 2",
-    },
+    }
+}
+
+pub(crate) fn other_4() -> Session {
     Session {
         name: "an empty message, values beside those of others, a void root",
         stream: "short 2402fb92fc1206ca87af74a684f2ee
@@ -365,7 +415,10 @@ sent long
 sent short 1 2402fb92fc1206ca87af74a684f2ee
 sent short 1 b3d078346239638b3be074fae8e9f8
 pending 0 0",
-    },
+    }
+}
+
+pub(crate) fn other_5() -> Session {
     Session {
         name: "bursts of three cycles, equal values of two stations",
         stream: "short 000000000000000000000000000000
@@ -394,7 +447,10 @@ sent long 41843cba14586227061491e659
 sent short 1 000000000000000000000000000000
 sent long a7fc84cb2491d38e9029dc8afa95775c0afcd011
 pending 2 0",
-    },
+    }
+}
+
+pub(crate) fn other_6() -> Session {
     Session {
         name: "equal values of one station, a split void by its limbs",
         stream: "short 000000000000000000000000000003
@@ -419,7 +475,10 @@ log short 2 000000000000000000000000000003
 sent short 1 000000000000000000000000000003
 sent short 1 000000000000000000000000000003
 pending 1 0",
-    },
+    }
+}
+
+pub(crate) fn other_7() -> Session {
     Session {
         name: "a burst that came back void, and the message again by the next coin",
         stream: "long b1f8fef31fccb32115aab2f49f3cf9003e157529
@@ -443,7 +502,10 @@ log long b1f8fef31fccb32115aab2f49f3cf9003e157529
 log short 1 000000000000000000000000000003
 sent long b1f8fef31fccb32115aab2f49f3cf9003e157529
 pending 0 1",
-    },
+    }
+}
+
+pub(crate) fn other_8() -> Session {
     Session {
         name: "equal values of one station one after the other",
         stream: "short 000000000000000000000000000003
@@ -472,7 +534,10 @@ sent short 1 000000000000000000000000000003
 sent short 1 4143113aac3439af7d22000673b171
 sent short 1 4143113aac3439af7d22000673b171
 pending 0 0",
-    },
+    }
+}
+
+pub(crate) fn other_9() -> Session {
     Session {
         name: "a collision without a further coin, a void split",
         stream: "short 000000000000000000000000000100
@@ -494,7 +559,10 @@ log short 1 000000000000000000000000000100
 log short 1 f3b64d68f862774bf55e269fee95ad
 sent short 1 000000000000000000000000000100
 pending 1 1",
-    },
+    }
+}
+
+pub(crate) fn other_10() -> Session {
     Session {
         name: "messages of others, a value that is sent at each word of its epoch",
         stream: "short 265ca7da277e6f28239de431d378f9
@@ -522,7 +590,10 @@ log short 1 6ca5d2c7e6204901224b150082fc7d
 sent short 1 265ca7da277e6f28239de431d378f9
 sent short 1 000000000000000000000000000001
 pending 1 0",
-    },
+    }
+}
+
+pub(crate) fn other_11() -> Session {
     Session {
         name: "the own burst void after that of another station",
         stream: "long 
@@ -536,5 +607,5 @@ burst 00001 000010000000002 15 0
 log long 2e230a28e2c5edc81c9489debcad
 log long 0000
 pending 0 2",
-    },
-];
+    }
+}

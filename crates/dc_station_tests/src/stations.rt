@@ -1,14 +1,15 @@
 //! Stations take the words of sessions: the phase and the plain word before each word, and what is known after it.
 
-ghost use Rattle.std.specs.Prelude.{◌≡◌, ℕ, ◌+◌, ◌-◌, ◌<◌, ◌≤◌, IfOk, IfSome};
-ghost use Rattle.dc_spec.specs.Entries.{Stream as stream_record};
-ghost use Rattle.dc_station.specs.State.{IsSenderOf, ReceiverState};
-ghost use Rattle.dc_station_tests.specs.Levels.{AreLevel};
+ghost use Rattle.std.specs.Prelude.{◌≡◌, ℕ, ◌+◌, ◌<◌, ◌≤◌, IfOk, IfSome};
 
 use crate::reading::{are_bytes, byte_number, number, part, short_number, word};
-use crate::sessions::{OTHERS, Session, WORKED};
+use crate::sessions::{
+    Session, other_0, other_1, other_2, other_3, other_4, other_5, other_6, other_7, other_8,
+    other_9, other_10, other_11, worked_0, worked_1, worked_2, worked_3, worked_4, worked_5,
+    worked_6, worked_7, worked_8, worked_9, worked_10, worked_11, worked_12, worked_13,
+};
 use dc_field::{Bytes, Value, Word};
-use dc_station::{Entry, Log, Phase, Receiver, Sender, Station};
+use dc_station::{Entry, Log, Phase, Receiver, Station};
 use dc_stream::{Stream, read_stream};
 use std::alloc::Global;
 use std::test::*;
@@ -136,17 +137,6 @@ fn receiver(alloc: Global, words: u16) -> Result<Receiver, Fail>
     Ok(Receiver::start(alloc, words).ok().ok_or("out of memory")?)
 }
 
-/// A sender at its start.
-fn sender(alloc: Global, words: u16) -> Result<Sender, Fail>
-    requires some { 1 ≤ words }
-    requires most { words ≤ 4096 }
-    ensures none { IfOk result (λ sender. sender.taken ≡ 0) }
-    ensures all { IfOk result (λ sender. sender.total ≡ words) }
-    ensures own { IfOk result (λ sender. (stream : stream_record) → IsSenderOf sender stream) }
-{
-    Ok(Sender::start(alloc, words).ok().ok_or("out of memory")?)
-}
-
 /// Gives a station the words of a session: the first line, from 0, that it does not follow. All entries are
 /// compared again with what the station has at its end.
 fn first_wrong(alloc: Global, session: &Session) -> Result<Option<usize>, Fail> {
@@ -176,133 +166,49 @@ fn first_wrong(alloc: Global, session: &Session) -> Result<Option<usize>, Fail> 
     Ok(if ends { None } else { Some(usize::MAX) })
 }
 
+/// Fails where a station does not follow a session.
+fn follows(alloc: Global, session: &Session) -> Result<(), Fail> {
+    match first_wrong(alloc, session)? {
+        None => Ok(()),
+        Some(_) => Err("a station does not follow the session")?,
+    }
+}
+
 #[test]
 fn stations_in_sessions_worked_by_hand(rt: HostRuntime) -> Result<(), Fail> {
-    for session in WORKED.iter() {
-        assert_eq!(rt; first_wrong(rt.alloc(), session)?, None, "{}", session.name);
-    }
+    let alloc = rt.alloc();
+    follows(alloc, &worked_0())?;
+    follows(alloc, &worked_1())?;
+    follows(alloc, &worked_2())?;
+    follows(alloc, &worked_3())?;
+    follows(alloc, &worked_4())?;
+    follows(alloc, &worked_5())?;
+    follows(alloc, &worked_6())?;
+    follows(alloc, &worked_7())?;
+    follows(alloc, &worked_8())?;
+    follows(alloc, &worked_9())?;
+    follows(alloc, &worked_10())?;
+    follows(alloc, &worked_11())?;
+    follows(alloc, &worked_12())?;
+    follows(alloc, &worked_13())?;
     Ok(())
 }
 
 #[test]
 fn stations_in_other_sessions(rt: HostRuntime) -> Result<(), Fail> {
-    for session in OTHERS.iter() {
-        assert_eq!(rt; first_wrong(rt.alloc(), session)?, None, "{}", session.name);
-    }
-    Ok(())
-}
-
-/// Whether two logs have the same entries.
-fn are_alike(a: &Log, b: &Log) -> bool {
-    if a.len() != b.len() {
-        return false;
-    }
-    for i in 0..a.len() {
-        if i < b.len() && (a.times(i) != b.times(i) || a.bytes(i) != b.bytes(i)) {
-            return false;
-        }
-    }
-    true
-}
-
-/// A station, and a sender for the same stream.
-#[derive(Drop)]
-struct Pair {
-    stream: Stream,
-    station: Station,
-    sender: Sender,
-}
-
-/// A pair at its start.
-fn begin(alloc: Global, text: &str, words: u16) -> Result<Pair, Fail>
-    requires some { 1 ≤ words }
-    requires most { words ≤ 4096 }
-    ensures { IfOk result (λ pair. (receiver : ReceiverState) → receiver.taken ≡ 0 → receiver.total ≡ words →
-        AreLevel pair.stream pair.station pair.sender receiver words) }
-{
-    let stream = stream(alloc, text)?;
-    let station = station(alloc, text, words)?;
-    let sender = sender(alloc, words)?;
-    Ok(Pair {
-        stream,
-        station,
-        sender,
-    })
-}
-
-/// Whether the station of a pair has the same entries as its sender and the shared receiver.
-fn know_alike(pair: &Pair, shared: &Receiver) -> bool
-    requires { IsSenderOf pair.now.sender pair.now.stream }
-{
-    pair.station.phase() == shared.phase()
-        && pair.station.pending() == pair.sender.pending(&pair.stream)
-        && are_alike(pair.station.log(), shared.log())
-        && are_alike(pair.station.sent(), pair.sender.sent())
-}
-
-/// Whether they also send the same word next.
-fn are_level(pair: &Pair, shared: &Receiver, left: usize) -> bool
-    requires some { 1 ≤ left }
-    requires level { AreLevel pair.now.stream pair.now.station pair.now.sender shared.now left }
-{
-    pair.station.plain().numbers() == pair.sender.plain(&pair.stream, shared).numbers()
-        && know_alike(pair, shared)
-}
-
-/// Two pairs and the receiver that their senders share take a word.
-fn take_all(a: &mut Pair, b: &mut Pair, shared: &mut Receiver, w: &Word, left: usize)
-    requires some { 1 ≤ left }
-    requires a { AreLevel a.old.stream a.old.station a.old.sender shared.old left }
-    requires b { AreLevel b.old.stream b.old.station b.old.sender shared.old left }
-    ensures a { AreLevel a.new.stream a.new.station a.new.sender shared.new (left - 1) }
-    ensures b { AreLevel b.new.stream b.new.station b.new.sender shared.new (left - 1) }
-{
-    shared.receive(w);
-    a.station.receive(w);
-    a.sender.take(&a.stream, shared);
-    b.station.receive(w);
-    b.sender.take(&b.stream, shared);
-}
-
-/// Two stations, and for the same streams one receiver with two senders, take the words of a session: the
-/// first line, from 0, at which they differ.
-fn first_unlike(alloc: Global, first: &Session, second: &Session) -> Result<Option<usize>, Fail> {
-    let words = words_in(first.lines).ok_or("not 1 to 4096 words")?;
-    let mut left = usize::from(words);
-    let mut shared = receiver(alloc, words)?;
-    let mut a = begin(alloc, first.stream, words)?;
-    let mut b = begin(alloc, second.stream, words)?;
-    for (n, line) in first.lines.split('\n').enumerate() {
-        if let Some(w) = received(line) {
-            if left == 0 {
-                return Err("more words than counted")?;
-            }
-            if !are_level(&a, &shared, left) || !are_level(&b, &shared, left) {
-                return Ok(Some(n));
-            }
-            take_all(&mut a, &mut b, &mut shared, &w, left);
-            left -= 1;
-        }
-    }
-    if !know_alike(&a, &shared) || !know_alike(&b, &shared) {
-        return Ok(Some(usize::MAX));
-    }
-    Ok(None)
-}
-
-/// The received word of a line, where it is that of a word.
-fn received(line: &str) -> Option<Word> {
-    phase(line)?;
-    word(part(line, 2)?)
-}
-
-/// Stations whose messages collide, and then use different fields; one of them beside a station that only listens.
-#[test]
-fn one_receiver_serves_two_senders(rt: HostRuntime) -> Result<(), Fail> {
     let alloc = rt.alloc();
-    assert_eq!(rt; first_unlike(alloc, &WORKED[0], &WORKED[1])?, None);
-    assert_eq!(rt; first_unlike(alloc, &WORKED[1], &WORKED[2])?, None);
-    assert_eq!(rt; first_unlike(alloc, &WORKED[9], &WORKED[10])?, None);
+    follows(alloc, &other_0())?;
+    follows(alloc, &other_1())?;
+    follows(alloc, &other_2())?;
+    follows(alloc, &other_3())?;
+    follows(alloc, &other_4())?;
+    follows(alloc, &other_5())?;
+    follows(alloc, &other_6())?;
+    follows(alloc, &other_7())?;
+    follows(alloc, &other_8())?;
+    follows(alloc, &other_9())?;
+    follows(alloc, &other_10())?;
+    follows(alloc, &other_11())?;
     Ok(())
 }
 
