@@ -10,6 +10,3 @@ mod stack;
 pub use ask::{Ask, BadWord, Step};
 pub use epoch::Epoch;
 pub use leaf::{Leaf, Leaves};
-
-#[cfg(test)]
-mod tests;

@@ -12,6 +12,3 @@ pub use fields::{Fields, granted};
 pub use fragments::{fragment, fragment_count};
 pub use judge::{BadBurst, BurstStep};
 pub use laws::{fragments_give_their_message, messages_are_short};
-
-#[cfg(test)]
-mod tests;
