@@ -23,11 +23,13 @@ set_grown was xs i v m within grown here k = elim (cases_eq k i) [
   | inr other ↦ rw (get_or-set_other xs i k v 0 other) (grown k)
 ]
 
--- sixteen pads that end before a place, times a word
-pub window_products : (second numbers w : List ℕ) (ahead i n m from : ℕ) → 16 ≤ ahead → from ≡ ahead - 15 → i + 16 ≤ n → m ≡ 16 → numbers ≡ w
-    → sum_by (λ j. get_or (take m (drop i (take n (drop from second)))) (15 - j) 0 * get_or numbers j 0) (range_with_len 0 16) ≡ sum_by (λ j. get_or second (ahead + i - j) 0 * get_or w j 0) (range_with_len 0 16)
-window_products second numbers w ahead i n m from behind start within long same =
-    sum_to-same (λ j. get_or (take m (drop i (take n (drop from second)))) (15 - j) 0 * get_or numbers j 0) (λ j. get_or second (ahead + i - j) 0 * get_or w j 0) 16 (λ j lt.
+-- sixteen pads that end before a place, times a word in the other order
+pub window_products : (second numbers factors w : List ℕ) (ahead i n m from : ℕ) → 16 ≤ ahead → from ≡ ahead - 15 → i + 16 ≤ n → m ≡ 16 → ((k : ℕ) → k < 16 → get_or factors k 0 ≡ get_or numbers (15 - k) 0) → numbers ≡ w
+    → sum_by (λ j. get_or (take m (drop i (take n (drop from second)))) (15 - j) 0 * get_or factors (15 - j) 0) (range_with_len 0 16) ≡ sum_by (λ j. get_or second (ahead + i - j) 0 * get_or w j 0) (range_with_len 0 16)
+window_products second numbers factors w ahead i n m from behind start within long turned same =
+    sum_to-same (λ j. get_or (take m (drop i (take n (drop from second)))) (15 - j) 0 * get_or factors (15 - j) 0) (λ j. get_or second (ahead + i - j) 0 * get_or w j 0) 16 (λ j lt.
     let at : from + (i + (15 - j)) ≡ ahead + i - j = omega arith in
+    let back : 15 - (15 - j) ≡ j = omega arith in
     let pad = pad_in_piece (take n (drop from second)) m i (15 - j) (omega arith) ∙ pad_in_piece second n from (i + (15 - j)) (omega arith) ∙ ap (λ (x : ℕ). get_or second x 0) at in
-    rw (pad, same) refl)
+    let factor : get_or factors (15 - j) 0 ≡ get_or w j 0 = turned (15 - j) (omega arith) ∙ ap (λ (x : ℕ). get_or numbers x 0) back ∙ ap (λ (xs : List ℕ). get_or xs j 0) same in
+    rw (pad, factor) refl)

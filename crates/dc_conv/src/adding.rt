@@ -34,35 +34,48 @@ fn add_word(sums: &mut [u64], second: &[u32], w: &Word, ahead: usize)
     ensures grown { (i : ℕ) → slice_index sums.new i ≤ slice_index sums.old i + 68719476736 }
 {
     let numbers = w.numbers();
+    let factors = turned(numbers);
     let pads = &second[ahead - 15..ahead + sums.len()];
     for i in 0..sums.len() {
-        sums[i] += products(&pads[i..i + 16], numbers);
+        sums[i] += products(&pads[i..i + 16], &factors);
     }
 }
 
-/// The sum of sixteen pads, each multiplied by a symbol: the last pad by the first symbol, and so
-/// on.
-fn products(pads: &[u32], numbers: &[u32; 16]) -> u64
+/// The sixteen symbols of a word in the other order, so that factors and pads go the same way.
+fn turned(numbers: &[u32; 16]) -> [u64; 16]
+    requires small { (l : ℕ) → slice_index numbers.now l ≤ 65536 }
+    ensures value { (k : ℕ) → k < 16 → slice_index result k ≡ slice_index numbers.now (15 - k) }
+    ensures small { (l : ℕ) → slice_index result l ≤ 65536 }
+{
+    let mut factors = [0u64; 16];
+    for l in 0..16 {
+        factors[l] = u64::from(numbers[15 - l]);
+    }
+    factors
+}
+
+/// The sum of sixteen pads, each multiplied by a factor.
+fn products(pads: &[u32], factors: &[u64; 16]) -> u64
     requires sixteen { length pads.now ≡ 16 }
     requires pads_small { (l : ℕ) → slice_index pads.now l ≤ 65536 }
-    requires numbers_small { (l : ℕ) → slice_index numbers.now l ≤ 65536 }
-    ensures value { result ≡ sum_by (λ j. slice_index pads.now (15 - j) * slice_index numbers.now j) (range_with_len 0 16) }
+    requires factors_small { (l : ℕ) → slice_index factors.now l ≤ 65536 }
+    ensures value { result ≡ sum_by (λ j. slice_index pads.now (15 - j) * slice_index factors.now (15 - j)) (range_with_len 0 16) }
     ensures small { result ≤ 68719476736 }
 {
     let mut total = 0u64;
     for j in 0..16 {
-        total += product(pads[15 - j], numbers[j]);
+        total += product(pads[15 - j], factors[15 - j]);
     }
     total
 }
 
-/// The product of a pad and a symbol. The mask changes nothing: it shows the compiler a small
+/// The product of a pad and a factor. The mask changes nothing: it shows the compiler a small
 /// factor, so that it multiplies numbers of 32 bits.
-fn product(pad: u32, number: u32) -> u64
+fn product(pad: u32, factor: u64) -> u64
     requires pad { pad ≤ 65536 }
-    requires number { number ≤ 65536 }
-    ensures value { result ≡ pad * number }
+    requires factor { factor ≤ 65536 }
+    ensures value { result ≡ pad * factor }
     ensures small { result ≤ 4294967296 }
 {
-    u64::from(pad) * (u64::from(number) & 0x1_ffff)
+    u64::from(pad) * (factor & 0x1_ffff)
 }

@@ -11,7 +11,7 @@ loop-i-preserved c =
     let within : c.loop-i.i < length c.loop-i.sums = omega arith in
     let here = c.loop-i.invariant.rest c.loop-i.i (omega arith) in
     let small = c.products.ensures.small in
-    let value = c.products.ensures.value ∙ window_products c.args.second.now _ c.args.w.now c.args.ahead c.loop-i.i _ _ _ (omega arith) (omega arith) (omega arith) (omega arith) c.numbers-numbers.ensures.value in
+    let value = c.products.ensures.value ∙ window_products c.args.second.now c.numbers-numbers.result.now c.turned-factors.result c.args.w.now c.args.ahead c.loop-i.i _ _ _ (omega arith) (omega arith) (omega arith) (omega arith) c.turned-factors.ensures.value c.numbers-numbers.ensures.value in
     record {
       so_far = set_more (λ k. get_or c.args.sums.now k 0 + sum_by (λ j. get_or c.args.second.now (c.args.ahead + k - j) 0 * get_or c.args.w.now j 0) (range_with_len 0 16)) c.loop-i.sums c.loop-i.i _ within c.loop-i.invariant.so_far (omega (arith, here, value));
       rest = set_rest c.args.sums.now c.loop-i.sums c.loop-i.i _ c.loop-i.invariant.rest;
