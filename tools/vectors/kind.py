@@ -110,15 +110,25 @@ def stream(item):
     return record(shorts=shorts, longs=longs, coins=numbers(item["coins"]))
 
 
-def stations_and_words(items):
-    """A list of stations with a word each."""
-    return listing([pair(str(station), word(digits)) for station, digits in items])
+def term(item):
+    """A term of a rule."""
+    return record(**dict(zip(["to", "factor", "station", "round", "symbol"], item)))
+
+
+def said(station, digits, terms=()):
+    """A station with its word and the terms of its rule; a line of version 1 has no terms."""
+    return record(station=station, word=word(digits), terms=listing([term(one) for one in terms]))
 
 
 def turn(item):
     """One round of a script."""
-    delivery = "all_sum" if item["each"] is None else f"(each {stations_and_words(item['each'])})"
-    return record(says=stations_and_words(item["says"]), delivery=delivery)
+    delivery = "all_sum" if item["each"] is None else f"(each {listing([said(*one) for one in item['each']])})"
+    return record(says=listing([said(*one) for one in item["says"]]), delivery=delivery)
+
+
+def script(version, rounds):
+    """A script."""
+    return record(version=version, rounds=listing([turn(one) for one in rounds]))
 
 
 def key_pair(item):

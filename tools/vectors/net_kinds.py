@@ -1,6 +1,6 @@
 """Kinds of the whole net: keys, forests, hubs, runs, twins, steerings."""
 
-from .kind import Kind, entry, key_pair, listing, numbers, option, pair, record, stream, turn, word, words
+from .kind import Kind, entry, key_pair, listing, numbers, option, pair, record, script, stream, word, words
 
 # All definitions that these kinds use. `computing` opens every definition of one station.
 PADS = {"dc_spec.specs.Words": "word_of", "dc_key_rules.specs.PairKeys": "key_word symbols"}
@@ -24,6 +24,12 @@ NETS = {
     "dc_net_rules.specs.Steerings": "changes_up_to steering_of steered_net",
     "dc_spec.specs.Symbols": "power_below",
 }
+AGREEMENT = {
+    "dc_spec.specs.Words": "word_of",
+    "dc_spec.specs.Scripts": "all_sum each",
+    "dc_net_rules.specs.Agreement": "disagreement key_stations key_words key_missing key_stray stream_missing stream_stray "
+    "script_rounds script_station script_delivery script_rule",
+}
 
 
 def edges(items):
@@ -36,8 +42,8 @@ def flat_words(rounds):
     return words([digits for items in rounds for digits in items])
 
 
-def net(item):
-    """A net."""
+def net(item, version=1):
+    """A net whose script has this version."""
     keys = record(stations=item["stations"], words=item["words"], pairs=listing([key_pair(one) for one in item["keys"]]))
     return record(
         stations=item["stations"],
@@ -45,7 +51,7 @@ def net(item):
         coalition=numbers(item["coalition"]),
         keys=keys,
         streams=listing([option(None if one is None else stream(one)) for one in item["streams"]]),
-        script=listing([turn(one) for one in item["script"]]),
+        script=script(version, item["script"]),
         words=item["words"],
     )
 
@@ -97,7 +103,7 @@ def hubs(line):
     return [f"replies {line['stations']} {line['rounds']} {arrivals} ≡ {listing([reply(one) for one in line['steps']])}"]
 
 
-def runs(line):
+def run_claims(line, version):
     """What the run of a net records, and whether all honest stations received alike."""
     expected = record(
         words=flat_words(line["words"]),
@@ -108,10 +114,23 @@ def runs(line):
         pending=listing([pair(str(shorts), str(longs)) for shorts, longs in line["pending"]]),
     )
     alike = "true" if all(len(set(got)) < 2 for got in line["delivered"]) else "false"
-    return [f"run_of {net(line['net'])} ≡ {expected}", f"is_alike {net(line['net'])} ≡ {alike}"]
+    given = net(line["net"], version)
+    return [f"run_of {given} ≡ {expected}", f"is_alike {given} ≡ {alike}"]
 
 
-def twin_net(line):
+def runs(line):
+    """A run of a script of version 1."""
+    return run_claims(line, 1)
+
+
+def ruled(line):
+    """A run of a script of version 2."""
+    if line["alike"] != all(len(set(got)) < 2 for got in line["delivered"]):
+        raise ValueError("the line says of its own deliveries whether they are alike")
+    return run_claims(line, 2)
+
+
+def twin_net(line, version):
     """The twin: station p(i) has the stream of station i, and each shift is added to the first pads of its pair."""
     added = {(u, v): [int(digits[at : at + 5], 16) for digits in shift for at in range(0, 80, 5)] for u, v, shift in line["shifts"]}
     pairs = []
@@ -121,31 +140,84 @@ def twin_net(line):
     streams = [None] * line["net"]["stations"]
     for station, image in enumerate(line["perm"]):
         streams[image] = line["net"]["streams"][station]
-    return net({**line["net"], "keys": pairs, "streams": streams})
+    return net({**line["net"], "keys": pairs, "streams": streams}, version)
 
 
-def twins(line):
+def twin_claims(line, version):
     """The permutation is admitted; the demands, what is added to the first pads of tree edges, the twin, and that its words are those of the net."""
     shifted = listing([record(u=u, v=v, words=words(added)) for u, v, added in line["shifts"]])
-    first, images = net(line["net"]), numbers(line["perm"])
+    first, images = net(line["net"], version), numbers(line["perm"])
+    second = twin_net(line, version)
     return [
         f"admits {first} {images} ≡ true",
         f"demands {first} {images} ≡ {listing([words(one) for one in line['demands']])}",
         f"shifts {first} {images} ≡ {shifted}",
-        f"twin {first} {images} ≡ {twin_net(line)}",
-        f"(run_of {twin_net(line)}).words ≡ (run_of {first}).words",
+        f"twin {first} {images} ≡ {second}",
+        f"(run_of {second}).words ≡ (run_of {first}).words",
+    ]
+
+
+def twins(line):
+    """A twin under a script of version 1."""
+    return twin_claims(line, 1)
+
+
+def ruled_twins(line):
+    """A twin under a script of version 2, and that its words, sums and deliveries are those of the line."""
+    second = twin_net(line, 2)
+    return [
+        *twin_claims(line, 2),
+        f"(run_of {second}).words ≡ {flat_words(line['words'])}",
+        f"(run_of {second}).sums ≡ {words(line['sums'])}",
+        f"(run_of {second}).delivered ≡ {flat_words(line['delivered'])}",
+    ]
+
+
+def steering_claims(line, version):
+    """Where two neighbours first differ, the changes of their pads, and that the steered net has the wanted sums after that."""
+    expected = record(round=line["round"], symbol=line["symbol"], first=numbers(line["first"]), second=numbers(line["second"]))
+    first = net(line["net"], version)
+    given = f"{first} {line['u']} {line['v']} {words(line['wanted'])}"
+    return [
+        f"steering_of {given} ≡ {expected}",
+        f"drop {line['round'] + 1} (run_of (steered_net {given})).sums ≡ {words(line['wanted'])}",
+        f"take {line['round'] + 1} (run_of (steered_net {given})).sums ≡ take {line['round'] + 1} (run_of {first}).sums",
     ]
 
 
 def steerings(line):
-    """Where two neighbours first differ, the changes of their pads, and that the steered net has the wanted sums after that."""
-    expected = record(round=line["round"], symbol=line["symbol"], first=numbers(line["first"]), second=numbers(line["second"]))
-    given = f"{net(line['net'])} {line['u']} {line['v']} {words(line['wanted'])}"
-    return [
-        f"steering_of {given} ≡ {expected}",
-        f"drop {line['round'] + 1} (run_of (steered_net {given})).sums ≡ {words(line['wanted'])}",
-        f"take {line['round'] + 1} (run_of (steered_net {given})).sums ≡ take {line['round'] + 1} (run_of {net(line['net'])}).sums",
-    ]
+    """A steering under a script of version 1."""
+    return steering_claims(line, 1)
+
+
+def ruled_steerings(line):
+    """A steering under a script of version 2 that is not refused."""
+    return None if line.get("fault") else steering_claims(line, 2)
+
+
+def plain_net(line):
+    """The parts of a net that their agreement depends on: pads are zeros, streams are empty."""
+    zeros = numbers([0] * (16 * line["keys"]["words"]))
+    pairs = listing([record(u=u, v=v, a=zeros, b=zeros) for u, v in line["keys"]["pairs"]])
+    nothing = record(shorts="[]", longs="[]", coins="[]")
+    return record(
+        stations=line["stations"],
+        edges=edges(line["edges"]),
+        coalition=numbers(line["coalition"]),
+        keys=record(stations=line["keys"]["stations"], words=line["keys"]["words"], pairs=pairs),
+        streams=listing([option(nothing if there else None) for there in line["streams"]]),
+        script=script(line["version"], line["script"]),
+        words=line["words"],
+    )
+
+
+def checks(line):
+    """The first test of agreement that fails."""
+    fault = None
+    if line["fault"] is not None:
+        name, *fields = line["fault"].split(" ")
+        fault = f"({' '.join([name.replace('-', '_'), *(field.split('=')[1] for field in fields)])})"
+    return [f"disagreement {plain_net(line)} ≡ {option(fault)}"]
 
 
 RUNNING = "computing rounds_of"
@@ -157,4 +229,13 @@ KINDS = {
     "runs": Kind("runs", NETS, RUNNING, runs, 2),
     "twins": Kind("twins", NETS, RUNNING + " reached spreads chain", twins, 2),
     "steerings": Kind("steerings", NETS, RUNNING + " power_below changes_up_to", steerings, 2),
+    "ruled": Kind("ruled", NETS, RUNNING, ruled, 2),
+    "ruled_twins": Kind("ruled_twins", NETS, RUNNING + " reached spreads chain", ruled_twins, 2),
+    "ruled_steerings": Kind("ruled_steerings", NETS, RUNNING + " power_below changes_up_to", ruled_steerings, 2),
+    "checks": Kind("checks", AGREEMENT, "word_of", checks, 10),
+}
+
+# what of a line no kind here checks
+UNCHECKED = {
+    "ruled_steerings": lambda case: "the refusals of a steering are not defined yet" if case.get("fault") else None,
 }

@@ -4,6 +4,7 @@ pub mod OutsideCases
 pub mod WorkedFiles
 pub mod WithinLimits
 pub mod WorkedNetRows
+pub mod WorkedRules
 pub mod WorkedRuns
 pub mod WorkedSessions
 pub mod WorkedStations

@@ -3,7 +3,7 @@ use Rattle.std.specs.Prelude.{ℕ, ◌+◌, ◌*◌, ◌%◌, List, [], ◌∷�
 use Rattle.std.specs.List.{range_with_len}
 use Rattle.dc_spec.specs.Words.{zero_word}
 use Rattle.dc_spec.specs.Entries.{Stream}
-use Rattle.dc_spec.specs.Scripts.{all_sum, each, Turn}
+use Rattle.dc_spec.specs.Scripts.{Said, all_sum, each, Turn, Script}
 use Rattle.dc_spec.specs.Pads.{Pair}
 use Rattle.dc_spec.specs.Net.{Net}
 
@@ -22,13 +22,21 @@ nothing = record { shorts = []; longs = []; coins = [] }
 abbrev pub of_values : List ℕ → Option Stream
 of_values values = Some (record { shorts = map small_value values; longs = []; coins = [] })
 
+-- a script of these rounds, whose words have no terms
+abbrev pub first_version : List Turn → Script
+first_version turns = record { version = 1; rounds = turns }
+
+-- a station's word without terms
+abbrev pub constant : ℕ → List ℕ → Said
+constant i w = record { station = i; word = w; terms = [] }
+
 -- a round in which a member says a word, and all receive the sum
 abbrev pub said : ℕ → List ℕ → Turn
-said i w = record { says = (i, w) ∷ []; delivery = all_sum }
+said i w = record { says = constant i w ∷ []; delivery = all_sum }
 
 -- a round of stations 0 and 1 and the member 2, which says the zero word: these words are delivered
 abbrev pub dealing : List ℕ → List ℕ → Turn
-dealing v w = record { says = (2, zero_word) ∷ []; delivery = each ((0, v) ∷ (1, w) ∷ []) }
+dealing v w = record { says = constant 2 zero_word ∷ []; delivery = each (constant 0 v ∷ constant 1 w ∷ []) }
 
 -- the pair of two stations in a session of so many words whose pads are zeros, and one with some pads
 abbrev pub zero_pair : ℕ → ℕ → ℕ → Pair
@@ -50,7 +58,7 @@ ring = record {
   coalition = 3 ∷ [];
   keys = record { stations = 4; words = 4; pairs = some_pair 4 0 1 5 ∷ zero_pair 4 0 3 ∷ some_pair 4 1 2 8 ∷ zero_pair 4 2 3 ∷ [] };
   streams = of_values (5 ∷ []) ∷ of_values [] ∷ of_values (9 ∷ []) ∷ None ∷ [];
-  script = replicate 4 (said 3 zero_word);
+  script = first_version (replicate 4 (said 3 zero_word));
   words = 4;
 }
 
@@ -66,7 +74,7 @@ split_pair = record {
   coalition = 2 ∷ [];
   keys = record { stations = 3; words = 2; pairs = zero_pair 2 0 1 ∷ [] };
   streams = of_values [] ∷ of_values [] ∷ None ∷ [];
-  script = dealing (two_ends 0 2) (two_ends 0 3) ∷ dealing zero_word zero_word ∷ [];
+  script = first_version (dealing (two_ends 0 2) (two_ends 0 3) ∷ dealing zero_word zero_word ∷ []);
   words = 2;
 }
 
@@ -78,6 +86,6 @@ three_stations = record {
   coalition = [];
   keys = record { stations = 3; words = 5; pairs = some_pair 5 0 1 9 ∷ some_pair 5 0 2 4 ∷ some_pair 5 1 2 11 ∷ [] };
   streams = of_values (1 ∷ []) ∷ of_values (3 ∷ []) ∷ of_values (3 ∷ []) ∷ [];
-  script = replicate 5 (record { says = []; delivery = all_sum });
+  script = first_version (replicate 5 (record { says = []; delivery = all_sum }));
   words = 5;
 }

@@ -6,7 +6,7 @@ use Rattle.dc_spec.specs.Words.{word_of, zero_word}
 use Rattle.dc_spec.specs.Text.{words_text}
 use Rattle.dc_spec.specs.Recorded.{Recorded, superposed, transcript_bytes}
 use Rattle.dc_spec.specs.Entries.{Entry, short, long}
-use Rattle.dc_spec.specs.Scripts.{all_sum, each, Turn}
+use Rattle.dc_spec.specs.Scripts.{all_sum, each, Script}
 use Rattle.dc_spec.specs.Pads.{Keys}
 use Rattle.dc_spec.specs.Net.{Net, Run}
 use Rattle.dc_formats.specs.TextFile.{text_file, hex_text, ended, cut_off, file_lines}
@@ -22,7 +22,7 @@ use Rattle.dc_run_texts.specs.Shifts.{shifts_text}
 use Rattle.dc_net_rules.specs.Steerings.{Steering}
 use Rattle.dc_run_texts.specs.Steering.{steering_text}
 use Rattle.dc_run_texts.specs.Trial.{trial_text}
-use Rattle.dc_cases.proofs.SharedValues.{two_ends, small_value, dealing, exchange, zero_pair, nothing}
+use Rattle.dc_cases.proofs.SharedValues.{two_ends, small_value, first_version, constant, dealing, exchange, zero_pair, nothing}
 
 -- a text file is its lines, each with a line feed
 lines_and_ends : text_file (codes "ab" ∷ [] ∷ codes "~" ∷ []) ≡ 97 ∷ 98 ∷ 10 ∷ 10 ∷ 126 ∷ 10 ∷ []
@@ -97,8 +97,8 @@ empty_stream : stream_text nothing ≡ []
 empty_stream = refl
 
 -- one member that says zero words; in the first round the other two stations receive different words
-abbrev pub dealing_script : List Turn
-dealing_script = dealing (two_ends 0 2) (two_ends 0 3) ∷ dealing zero_word zero_word ∷ []
+abbrev pub dealing_script : Script
+dealing_script = first_version (dealing (two_ends 0 2) (two_ends 0 3) ∷ dealing zero_word zero_word ∷ [])
 
 -- its file
 dealing_script_file : script_text dealing_script ≡ text_file (codes "dcscript 1" ∷ codes "round 0" ∷ codes "say 2 00000000000000000000000000000000000000000000000000000000000000000000000000000000"
@@ -110,12 +110,12 @@ unfolding word_of digits
 dealing_script_file = refl
 
 -- a round in which nobody is in the coalition
-quiet_script_file : script_text (record { says = []; delivery = all_sum } ∷ []) ≡ text_file (codes "dcscript 1" ∷ codes "round 0" ∷ codes "all" ∷ [])
+quiet_script_file : script_text (first_version (record { says = []; delivery = all_sum } ∷ [])) ≡ text_file (codes "dcscript 1" ∷ codes "round 0" ∷ codes "all" ∷ [])
 unfolding digits
 quiet_script_file = refl
 
 -- a script of no rounds
-empty_script_file : script_text [] ≡ text_file (codes "dcscript 1" ∷ [])
+empty_script_file : script_text (first_version []) ≡ text_file (codes "dcscript 1" ∷ [])
 empty_script_file = refl
 
 -- stations 0 and 2 change places
@@ -154,7 +154,7 @@ lone_net = record {
   coalition = [];
   keys = record { stations = 1; words = 1; pairs = [] };
   streams = [];
-  script = record { says = []; delivery = all_sum } ∷ [];
+  script = first_version (record { says = []; delivery = all_sum } ∷ []);
   words = 1;
 }
 
@@ -196,7 +196,7 @@ dealt_net = record {
         ∷ [];
   };
   streams = [];
-  script = record { says = (1, two_ends 10 11) ∷ []; delivery = each ((0, two_ends 12 13) ∷ (2, two_ends 14 15) ∷ []) } ∷ [];
+  script = first_version (record { says = constant 1 (two_ends 10 11) ∷ []; delivery = each (constant 0 (two_ends 12 13) ∷ constant 2 (two_ends 14 15) ∷ []) } ∷ []);
   words = 1;
 }
 
@@ -237,7 +237,7 @@ honest_net = record {
   coalition = [];
   keys = record { stations = 3; words = 5; pairs = [] };
   streams = [];
-  script = [];
+  script = first_version [];
   words = 5;
 }
 

@@ -18,7 +18,7 @@ use Rattle.dc_net_rules.specs.Bags.{value, text, count_in}
 use Rattle.dc_spec.specs.Frames.{hello, send}
 use Rattle.dc_net_rules.specs.SessionTexts.{says}
 use Rattle.dc_net_rules.specs.Twins.{admits, inverse, shifts, twin}
-use Rattle.dc_cases.proofs.SharedValues.{two_ends, small_value, nothing, of_values, said, dealing, zero_pair, some_pair, ring, exchange, split_pair, three_stations}
+use Rattle.dc_cases.proofs.SharedValues.{two_ends, small_value, nothing, of_values, first_version, said, dealing, zero_pair, some_pair, ring, exchange, split_pair, three_stations}
 
 -- the pair whose second pad 17 alone is 1
 abbrev shifting_pair : Pair
@@ -138,7 +138,7 @@ triangle streams script words = record {
   coalition = 2 ∷ [];
   keys = record { stations = 3; words = words; pairs = some_pair words 0 1 9 ∷ zero_pair words 0 2 ∷ zero_pair words 1 2 ∷ [] };
   streams = streams;
-  script = script;
+  script = first_version script;
   words = words;
 }
 
@@ -187,7 +187,7 @@ run_of_large_split = refl
 
 -- two honest stations with the value 5, to which the coalition deals different words of an epoch
 abbrev dealt_values : Net
-dealt_values = record split_pair { streams = of_values (5 ∷ []) ∷ of_values (5 ∷ []) ∷ None ∷ []; script = dealing zero_word zero_word ∷ dealing (two_ends 1 5) (two_ends 1 6) ∷ [] }
+dealt_values = record split_pair { streams = of_values (5 ∷ []) ∷ of_values (5 ∷ []) ∷ None ∷ []; script = first_version (dealing zero_word zero_word ∷ dealing (two_ends 1 5) (two_ends 1 6) ∷ []) }
 
 -- each logs what it received, and the value counts as sent at the one station that received it
 run_of_dealt_values : outcome (run_of dealt_values) ≡ (

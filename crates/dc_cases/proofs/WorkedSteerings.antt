@@ -9,7 +9,7 @@ use Rattle.dc_net_rules.specs.Runs.{rounds_of, run_of}
 use Rattle.dc_spec.specs.Symbols.{power_below}
 use Rattle.dc_net_rules.specs.Steerings.{changes_up_to, steered, steering_of, with_pair, steered_net}
 use Rattle.dc_station_rules.proofs.Computing.{computing}
-use Rattle.dc_cases.proofs.SharedValues.{two_ends, of_values, zero_pair, dealing}
+use Rattle.dc_cases.proofs.SharedValues.{two_ends, of_values, zero_pair, first_version, constant, dealing}
 
 -- a word with 7 as symbol 3
 abbrev seven : List ℕ
@@ -23,7 +23,8 @@ late_difference = record {
   coalition = 2 ∷ [];
   keys = record { stations = 3; words = 3; pairs = zero_pair 3 0 1 ∷ [] };
   streams = of_values [] ∷ of_values [] ∷ None ∷ [];
-  script = dealing seven seven ∷ dealing (two_ends 0 2) (two_ends 0 3) ∷ record { says = (2, two_ends 3 4) ∷ []; delivery = each ((0, zero_word) ∷ (1, zero_word) ∷ []) } ∷ [];
+  script = first_version (dealing seven seven ∷ dealing (two_ends 0 2) (two_ends 0 3)
+      ∷ record { says = constant 2 (two_ends 3 4) ∷ []; delivery = each (constant 0 zero_word ∷ constant 1 zero_word ∷ []) } ∷ []);
   words = 3;
 }
 

@@ -10,7 +10,7 @@ use Rattle.dc_graph_rules.specs.Forests.{spreads, chain, parents, children, stat
 use Rattle.dc_net_rules.specs.Runs.{rounds_of, run_of}
 use Rattle.dc_net_rules.specs.Twins.{inverse, moved, shifts, twin}
 use Rattle.dc_station_rules.proofs.Computing.{computing}
-use Rattle.dc_cases.proofs.SharedValues.{two_ends, of_values, some_pair}
+use Rattle.dc_cases.proofs.SharedValues.{two_ends, of_values, first_version, some_pair}
 
 -- a ring of four honest stations in which station 3 has two neighbours that are one step from the root
 abbrev square : KeyGraph
@@ -48,7 +48,7 @@ three_stations edges words pairs streams = record {
   coalition = [];
   keys = record { stations = 3; words = words; pairs = pairs };
   streams = streams;
-  script = replicate words (record { says = []; delivery = all_sum });
+  script = first_version (replicate words (record { says = []; delivery = all_sum }));
   words = words;
 }
 

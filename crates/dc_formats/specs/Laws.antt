@@ -3,7 +3,7 @@
 use Rattle.std.specs.Prelude.{ℕ, ◌+◌, ◌*◌, ◌<◌, ◌≤◌, ◌≡◌, List, [], length, map, All, false}
 use Rattle.dc_spec.specs.Limits as limit
 use Rattle.dc_spec.specs.Lists.{is_among}
-use Rattle.dc_spec.specs.Scripts.{Delivery, all_sum, each, Turn}
+use Rattle.dc_spec.specs.Scripts.{delivered_words, stations_of, Turn, Script}
 use Rattle.dc_spec.specs.Recorded.{IsRecorded, transcript_bytes}
 use Rattle.dc_formats.specs.TextFile.{IsTextLine, IsTextFile, text_file, ended, file_lines}
 use Rattle.dc_formats.specs.KeyFile.{IsKeys, keys_bytes}
@@ -90,15 +90,6 @@ KeyFilesAreWithin = IsWithin limit.key_file_limit IsKeys keys_bytes
 abbrev pub StreamsAreWithin : Type 0
 StreamsAreWithin = IsWithin limit.stream_limit IsStream stream_text
 
--- the words that are delivered to stations, none where all receive the sum
-abbrev pub delivered_words : Delivery → List (ℕ × List ℕ)
-delivered_words all_sum = []
-delivered_words (each dealt) = dealt
-
--- the stations of words
-abbrev pub stations_of : List (ℕ × List ℕ) → List ℕ
-stations_of words = map (λ w. w.0) words
-
 -- a round that a net can have: its stations are below the limit, and no station both says a word
 -- and is delivered one
 pub record FitsNets (turn : Turn) : Type 0 where
@@ -110,8 +101,8 @@ pub record FitsNets (turn : Turn) : Type 0 where
 -- and scripts, where a net can have each round
 abbrev pub ScriptsAreWithin : Type 0
 ScriptsAreWithin =
-    (turns : List Turn) → IsScript turns → All FitsNets turns
-    → length (script_text turns) ≤ limit.script_limit
+    (script : Script) → IsScript script → All FitsNets script.rounds
+    → length (script_text script) ≤ limit.script_limit
 
 -- and files of images
 abbrev pub ImagesAreWithin : Type 0

@@ -1,3 +1,4 @@
+pub mod Agreement
 pub mod Bags
 pub mod Runs
 pub mod SessionTexts

@@ -1,12 +1,11 @@
 -- The run of a net: round after round the words of all stations, their sum, and what each station
 -- receives.
-use Rattle.std.specs.Prelude.{ℕ, zero, suc, ◌≡◌, ◌==◌, not, if◌then◌else◌, List, [], ◌∷◌, ◌++◌, length, map, filter, find, flat_map, slice_index_or, None, unwrap_or, IsTrue, All, Bool}
+use Rattle.std.specs.Prelude.{ℕ, zero, suc, ◌≡◌, ◌==◌, not, if◌then◌else◌, List, [], ◌∷◌, ◌++◌, length, map, filter, flat_map, slice_index_or, None, unwrap_or, IsTrue, All, Bool}
 use Rattle.std.specs.List.{range_with_len, list_all}
 use Rattle.std.specs.Str.{bytes_eq}
-use Rattle.std.specs.Option.{option_map_or}
 use Rattle.dc_spec.specs.Words.{zero_word, word_add, word_sum}
 use Rattle.dc_spec.specs.Entries.{Stream}
-use Rattle.dc_spec.specs.Scripts.{Delivery, all_sum, each, Turn}
+use Rattle.dc_spec.specs.Scripts.{Delivery, all_sum, each, Turn, word_by_rule}
 use Rattle.dc_spec.specs.Pads.{Pair}
 use Rattle.dc_spec.specs.Net.{Net, Run}
 use Rattle.dc_station_rules.specs.Stations.{plain_word, log_of, sent_of, pending_counts}
@@ -24,11 +23,6 @@ pub record Round : Type 0 where
 abbrev pub word_of_station : List (List ℕ) → ℕ → List ℕ
 word_of_station words i = slice_index_or words i zero_word
 
--- the word of a station in a list of stations with their words; the zero word where there is none
-abbrev pub listed_word : List (ℕ × List ℕ) → ℕ → List ℕ
-listed_word listed i =
-    option_map_or (λ entry. entry.1) (find (λ entry. entry.0 == i) listed) zero_word
-
 -- the stream of a station; the empty stream where the net has none for it
 abbrev pub station_stream : Net → ℕ → Stream
 station_stream net i =
@@ -36,7 +30,7 @@ station_stream net i =
 
 -- the script's round of this number; past the end nobody says a word and all receive the sum
 abbrev pub script_turn : Net → ℕ → Turn
-script_turn net t = slice_index_or net.script t (record { says = []; delivery = all_sum })
+script_turn net t = slice_index_or net.script.rounds t (record { says = []; delivery = all_sum })
 
 -- the honest stations of a net, in rising order
 abbrev pub honest_stations : Net → List ℕ
@@ -46,10 +40,9 @@ honest_stations net = filter (λ i. not (is_among net.coalition i)) (range_with_
 abbrev pub history : List Round → ℕ → List (List ℕ)
 history rounds i = map (λ round. word_of_station round.received i) rounds
 
--- what a station receives in a round: the sum, or the word that the script delivers to it
-abbrev pub heard : Delivery → List ℕ → ℕ → List ℕ
-heard all_sum sum i = sum
-heard (each dealt) sum i = listed_word dealt i
+-- all words of the rounds that were played, those of a round by station
+abbrev pub published : List Round → List (List ℕ)
+published rounds = flat_map (λ round. round.words) rounds
 
 -- the word of an honest station after the words that it received: its plain word and the keys of
 -- its pairs
@@ -57,19 +50,41 @@ abbrev pub station_word : Stream → List Pair → ℕ → List (List ℕ) → L
 station_word stream pairs i received =
     word_add (plain_word stream received) (key_part pairs i received)
 
--- the word of a station in the round after those played; a member's word is that of the script
-abbrev pub next_word : Net → List Round → ℕ → List ℕ
-next_word net played i =
-    if is_among net.coalition i then listed_word (script_turn net (length played)).says i
+-- the words of the honest stations in the round after those played, by station; a member's place has
+-- the zero word
+abbrev pub honest_words : Net → List Round → List (List ℕ)
+honest_words net played = map (λ i.
+    if is_among net.coalition i then zero_word
     else station_word (station_stream net i) net.keys.pairs i (history played i)
+    ) (range_with_len 0 net.stations)
+
+-- the words of all stations in that round: a member's word is the script's, over all words of earlier
+-- rounds and the honest words of this one
+abbrev pub next_words : Net → List Round → List (List ℕ)
+next_words net played =
+    let honest = honest_words net played in map (λ i.
+    if is_among net.coalition i
+    then word_by_rule (script_turn net (length played)).says (published played ++ honest) net.stations i
+    else word_of_station honest i
+    ) (range_with_len 0 net.stations)
+
+-- what a station receives in a round: the sum, or the word that the script delivers to it, over all
+-- words up to and including this round
+abbrev pub heard : Net → Delivery → List (List ℕ) → List ℕ → ℕ → List ℕ
+heard net all_sum words sum i = sum
+heard net (each dealt) words sum i = word_by_rule dealt words net.stations i
 
 -- the round after those played
 abbrev pub next_round : Net → List Round → Round
 next_round net played =
-    let words = map (next_word net played) (range_with_len 0 net.stations) in
+    let words = next_words net played in
     let sum = word_sum words in
     let delivery = (script_turn net (length played)).delivery in
-    record { words = words; sum = sum; received = map (heard delivery sum) (range_with_len 0 net.stations) }
+    record {
+      words = words;
+      sum = sum;
+      received = map (heard net delivery (published played ++ words) sum) (range_with_len 0 net.stations);
+    }
 
 -- the first so many rounds of a net
 unfoldable pub rounds_of : Net → ℕ → List Round
@@ -85,7 +100,7 @@ abbrev pub recorded : Net → List Round → Run
 recorded net played =
     let stations = honest_stations net in
     record {
-      words = flat_map (λ round. round.words) played;
+      words = published played;
       sums = map (λ round. round.sum) played;
       delivered = flat_map (λ round. map (word_of_station round.received) stations) played;
       logs = map (λ i. log_of (history played i)) stations;
@@ -124,4 +139,4 @@ is_alike net = list_all (is_alike_in net) (all_rounds net)
 
 -- each delivery of the script is the sum
 abbrev pub DeliversSums : Net → Type 0
-DeliversSums net = All (λ turn. turn.delivery ≡ all_sum) net.script
+DeliversSums net = All (λ turn. turn.delivery ≡ all_sum) net.script.rounds

@@ -60,4 +60,4 @@ unfoldable pub view_text : Net → Run → List ℕ
 view_text net run = line (codes "view 1")
     ++ line (codes "net " ++ decimal net.stations ++ codes " " ++ decimal net.words)
     ++ net_text net
-    ++ flat_map (λ t. round_text net run t.0 t.1.delivery) (enumerate_from 0 net.script)
+    ++ flat_map (λ t. round_text net run t.0 t.1.delivery) (enumerate_from 0 net.script.rounds)

@@ -30,6 +30,10 @@ most_longs = 256
 abbrev pub most_coins : ℕ
 most_coins = 4096
 
+-- how many terms the rules of a script have at most, all words together
+abbrev pub most_terms : ℕ
+most_terms = 524288
+
 -- how many bytes of a transcript are read at most
 abbrev pub transcript_limit : ℕ
 transcript_limit = 134217728

@@ -1,7 +1,7 @@
 -- What a net is made of, and what a run of it records.
 use Rattle.std.specs.Prelude.{ℕ, List, Option}
 use Rattle.dc_spec.specs.Entries.{Entry, Stream}
-use Rattle.dc_spec.specs.Scripts.{Turn}
+use Rattle.dc_spec.specs.Scripts.{Script}
 use Rattle.dc_spec.specs.Pads.{Keys}
 
 -- a net: the number of stations, the edges of the key graph, the coalition's stations, the pads, a
@@ -12,7 +12,7 @@ pub record Net : Type 0 where
   pub coalition : List ℕ
   pub keys : Keys
   pub streams : List (Option Stream)
-  pub script : List Turn
+  pub script : Script
   pub words : ℕ
 
 -- a run: all words, those of a round by station; the sum of each round; all received words, those
