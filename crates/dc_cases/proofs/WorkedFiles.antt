@@ -116,6 +116,7 @@ quiet_script_file = refl
 
 -- a script of no rounds
 empty_script_file : script_text (first_version []) ≡ text_file (codes "dcscript 1" ∷ [])
+unfolding digits
 empty_script_file = refl
 
 -- stations 0 and 2 change places

@@ -20,7 +20,7 @@ use Rattle.dc_cases.proofs.SharedValues.{two_ends, nothing, zero_pair, ring, exc
 use Rattle.dc_cases.proofs.WorkedFiles.{lone_net}
 
 -- named by a lemma, this opens every definition that a run computes by
-abbrev pub computing : Type 0
+unfoldable pub computing : Type 0
 unfolding digits one_station rounds_of reached spreads chain power_below changes_up_to view_text logs_text
 computing = Unit {0}
 

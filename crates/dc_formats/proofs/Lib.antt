@@ -5,4 +5,3 @@ pub mod BinaryLaws
 pub mod Sizes
 pub mod SpelledLines
 pub mod TextLaws
-mod ScriptSizes

@@ -10,12 +10,10 @@ use Rattle.std.proofs.lemmas.Bool.Decides.{nat_tests}
 use Rattle.dc_spec.specs.Words.{IsWord}
 use Rattle.dc_spec.specs.Text.{word_text, line}
 use Rattle.dc_spec.specs.Entries.{Stream}
-use Rattle.dc_spec.specs.Scripts.{Delivery, all_sum, each, Turn}
 use Rattle.dc_formats.specs.TextFile.{IsPrintable, IsTextLine, IsTextFile, AreBytes, hex_text}
 use Rattle.dc_formats.specs.WordLines.{station_word_line}
 use Rattle.dc_spec.specs.Values.{IsValue}
 use Rattle.dc_formats.specs.StreamFile.{short_line, long_line, coin_line, stream_text, IsMessage, IsStream}
-use Rattle.dc_formats.specs.ScriptFile.{delivery_lines, turn_lines, script_text, AreStationWords, IsTurn, IsScript}
 use Rattle.dc_formats.specs.ListFiles.{images_text, AreImages, wanted_text, AreWanted}
 use Rattle.dc_formats.proofs.Pieces.{bytes_of, IsFigure, AreFigures, hex_text_figures, word_text_figures, decimal_figures}
 
@@ -81,29 +79,3 @@ station_line beginning d p lt = line_is_file _
     (joined _ (word_text d.1) (joined _ (codes " ") (joined beginning (decimal d.0) p (figures_printable (decimal d.0) (decimal_figures d.0 (omega arith)))) (printable_by_test (codes " ") refl))
     (figures_printable (word_text d.1) (word_text_figures d.1)))
 
--- lines of stations and words
-station_lines : (beginning : List ℕ) → IsTextLine beginning → (ds : List (ℕ × List ℕ)) → AreStationWords ds → IsTextFile (flat_map (λ d. station_word_line beginning d.0 d.1) ds)
-station_lines beginning p ds are = files_of (λ d. d.0 < 65536) (λ d. station_word_line beginning d.0 d.1) (λ d lt. station_line beginning d p lt) ds are.stations
-
--- the one line `all`, or lines of stations and words
-delivery_is_text : (turn : Turn) → IsTurn turn → (d : Delivery) → turn.delivery ≡ d → IsTextFile (delivery_lines d)
-delivery_is_text turn is all_sum e = line_is_file (codes "all") (printable_by_test (codes "all") refl)
-delivery_is_text turn is (each dealt) e = station_lines (codes "to ") (printable_by_test (codes "to ") refl) dealt (is.dealt_words dealt e)
-
--- the round line, the `say` lines, the delivery
-turn_is_text : (r : ℕ) (turn : Turn) → r < 2 ^ 64 → IsTurn turn → IsTextFile (turn_lines r turn)
-turn_is_text r turn lt is =
-    files_joined _ (delivery_lines turn.delivery)
-    (files_joined _ _ (number_line (codes "round ") r (printable_by_test (codes "round ") refl) lt) (station_lines (codes "say ") (printable_by_test (codes "say ") refl) turn.says is.said))
-    (delivery_is_text turn is turn.delivery refl)
-
--- the rounds from a number on
-rounds_are_text : (k : ℕ) (turns : List Turn) → k + length turns < 2 ^ 64 → All IsTurn turns → IsTextFile (flat_map (λ t. turn_lines t.0 t.1) (enumerate_from k turns))
-rounds_are_text k [] small p = record { texts = []; are_lines = All-nil IsTextLine; spelled = refl }
-rounds_are_text k (turn ∷ turns) small p =
-    files_joined (turn_lines k turn) _ (turn_is_text k turn (omega arith) (All-head IsTurn turn turns p)) (rounds_are_text (k + 1) turns (omega arith) (All-tail IsTurn turn turns p))
-
--- the head line, then round after round
-pub script_is_text : (turns : List Turn) → IsScript turns → IsTextFile (script_text turns)
-script_is_text turns p =
-    files_joined (line (codes "dcscript 1")) _ (line_is_file (codes "dcscript 1") (printable_by_test (codes "dcscript 1") refl)) (rounds_are_text 0 turns (omega arith) p.are_turns)

@@ -8,12 +8,10 @@ use Rattle.std.proofs.lemmas.Fmt.{decimal_injective}
 use Rattle.dc_spec.specs.Words.{IsWord}
 use Rattle.dc_spec.specs.Text.{word_text, line}
 use Rattle.dc_spec.specs.Entries.{Stream}
-use Rattle.dc_spec.specs.Scripts.{Delivery, all_sum, each, Turn}
 use Rattle.dc_formats.specs.TextFile.{IsTextLine, text_file, AreBytes, hex_text}
 use Rattle.dc_formats.specs.WordLines.{station_word_line}
 use Rattle.dc_spec.specs.Values.{IsValue}
 use Rattle.dc_formats.specs.StreamFile.{short_line, long_line, coin_line, stream_text, IsMessage, IsStream}
-use Rattle.dc_formats.specs.ScriptFile.{delivery_lines, turn_lines, script_text, AreStationWords, IsTurn, IsScript}
 use Rattle.dc_formats.specs.ListFiles.{images_text, AreImages, wanted_text, AreWanted}
 use Rattle.dc_formats.proofs.Readable.{IsReadable, Ends, without_rest, read_until, read_to_byte}
 use Rattle.dc_formats.proofs.Pieces.{bytes_of, IsFigure, AreFigures, hex_text_injective, hex_text_figures, word_text_figures, decimal_figures, read_word_text, read_line}
@@ -97,121 +95,6 @@ stream_tells x y p q e =
     let none : Ends (λ c. c < 16) coin_line [] = λ c t lt empty. cc in
     let coins : x.coins ≡ y.coins = (read_until (λ c. c < 16) coin_line read_coin_line x.coins y.coins [] [] p.are_fields q.are_fields none none (without_rest _ _ longs.1)).0 in
     λ i. record { shorts = shorts.0 i; longs = longs.0 i; coins = coins i }
-
--- a station's number and a word
-abbrev IsStationWord : ℕ × List ℕ → Type 0
-IsStationWord d = (d.0 < 65536) × IsWord d.1
-
--- a number, a blank, a word, the end of the line
-read_station_word : (i j : ℕ) (v w r s : List ℕ) → i < 65536 → j < 65536 → IsWord v → IsWord w → station_word_line [] i v ++ r ≡ station_word_line [] j w ++ s → (i ≡ j) × (v ≡ w) × (r ≡ s)
-read_station_word i j v w r s p q is is' e =
-    let apart : decimal i ++ 32 ∷ (word_text v ++ 10 ∷ r) ≡ decimal j ++ 32 ∷ (word_text w ++ 10 ∷ s) = simp append_assoc at e in
-    let number : (decimal i ≡ decimal j) × (word_text v ++ 10 ∷ r ≡ word_text w ++ 10 ∷ s) = read_to_byte 32 (decimal i) (decimal j) _ _ (no_blank (decimal i) (decimal_figures i (omega arith)))
-    (no_blank (decimal j) (decimal_figures j (omega arith))) apart in
-    let same : i ≡ j = decimal_injective i j (omega arith) (omega arith) number.0 in
-    let words : (v ≡ w) × (10 ∷ r ≡ 10 ∷ s) = read_word_text v w _ _ is is' number.1 in
-    (same, words.0, cc (words.1))
-
--- what a member says
-read_say_line : IsReadable IsStationWord (λ d. station_word_line (codes "say ") d.0 d.1)
-read_say_line x y r s p q e =
-    let parts : (x.0 ≡ y.0) × (x.1 ≡ y.1) × (r ≡ s) = read_station_word x.0 y.0 x.1 y.1 r s p.0 q.0 p.1 q.1 cc in
-    ((λ i. (parts.0 i, parts.1 i)), parts.2)
-
--- what an honest station is dealt
-read_to_line : IsReadable IsStationWord (λ d. station_word_line (codes "to ") d.0 d.1)
-read_to_line x y r s p q e =
-    let parts : (x.0 ≡ y.0) × (x.1 ≡ y.1) × (r ≡ s) = read_station_word x.0 y.0 x.1 y.1 r s p.0 q.0 p.1 q.1 cc in
-    ((λ i. (parts.0 i, parts.1 i)), parts.2)
-
--- all station words of a list
-station_words : (dealt : List (ℕ × List ℕ)) → AreStationWords dealt → All IsStationWord dealt
-station_words dealt are k d lt = (are.stations k d lt, are.are_words k d lt)
-
--- a delivery that a script may have: where words are dealt, there is one at least
-IsDealt : Delivery → Type 0
-IsDealt all_sum = Unit {0}
-IsDealt (each dealt) = (1 ≤ length dealt) × All IsStationWord dealt
-
--- the delivery of a round of a script is one that a script may have
-dealt_of : (turn : Turn) → IsTurn turn → (d : Delivery) → turn.delivery ≡ d → IsDealt d
-unfolding IsDealt
-dealt_of turn is all_sum e = tt
-dealt_of turn is (each dealt) e = (is.some_dealt dealt e, station_words dealt (is.dealt_words dealt e))
-
--- no `to` line follows
-NoTo : List ℕ → Type 0
-NoTo r = (t : List ℕ) → r ≡ 116 ∷ t → ⊥
-
--- no `say` line stands after the `say` lines
-says_end : (d : Delivery) (r : List ℕ) → IsDealt d → Ends IsStationWord (λ s. station_word_line (codes "say ") s.0 s.1) (delivery_lines d ++ r)
-unfolding IsDealt
-says_end all_sum r dealt x t is e = other_letter 97 115 _ _ e (λ same. omega arith)
-says_end (each []) r dealt x t is e = omega arith
-says_end (each (d ∷ ds)) r dealt x t is e = other_letter 116 115 _ _ e (λ same. omega arith)
-
--- no `to` line stands after the `to` lines
-dealt_end : (r : List ℕ) → NoTo r → Ends IsStationWord (λ d. station_word_line (codes "to ") d.0 d.1) r
-unfolding NoTo
-dealt_end r after x t is e = after _ e
-
--- a delivery, up to what is no `to` line
-read_delivery : (d d' : Delivery) (r s : List ℕ) → IsDealt d → IsDealt d' → NoTo r → NoTo s → delivery_lines d ++ r ≡ delivery_lines d' ++ s → (d ≡ d') × (r ≡ s)
-unfolding IsDealt
-read_delivery all_sum all_sum r s p q after after' e = (refl, cc)
-read_delivery all_sum (each []) r s p q after after' e = absurd (omega arith)
-read_delivery all_sum (each (w ∷ ws)) r s p q after after' e = absurd (other_letter 97 116 _ _ e (λ same. omega arith))
-read_delivery (each []) all_sum r s p q after after' e = absurd (omega arith)
-read_delivery (each (w ∷ ws)) all_sum r s p q after after' e = absurd (other_letter 116 97 _ _ e (λ same. omega arith))
-read_delivery (each ws) (each vs) r s p q after after' e =
-    let words : (ws ≡ vs) × (r ≡ s) = read_until IsStationWord (λ d. station_word_line (codes "to ") d.0 d.1) read_to_line ws vs r s p.1 q.1 (dealt_end r after) (dealt_end s after') e in
-    (ap each words.0, words.1)
-
--- four texts, the last three taken together
-regrouped : (a b c d : List ℕ) → ((a ++ b) ++ c) ++ d ≡ a ++ (b ++ (c ++ d))
-regrouped a b c d = append_assoc (a ++ b) c d ∙ append_assoc a b (c ++ d)
-
--- the `say` lines of a round
-abbrev say_lines : List (ℕ × List ℕ) → List ℕ
-say_lines says = flat_map (λ s. station_word_line (codes "say ") s.0 s.1) says
-
--- a round with its number, up to what is no `to` line
-read_turn : (k : ℕ) (x y : Turn) (r s : List ℕ) → IsTurn x → IsTurn y → NoTo r → NoTo s → turn_lines k x ++ r ≡ turn_lines k y ++ s → (x ≡ y) × (r ≡ s)
-read_turn k x y r s p q after after' e =
-    let head : List ℕ = line (codes "round " ++ decimal k) in
-    let apart : head ++ (say_lines x.says ++ (delivery_lines x.delivery ++ r)) ≡ head ++ (say_lines y.says ++ (delivery_lines y.delivery ++ s)) =
-    sym (regrouped head (say_lines x.says) (delivery_lines x.delivery) r) ∙ e ∙ regrouped head (say_lines y.says) (delivery_lines y.delivery) s in
-    let dealt : IsDealt x.delivery = dealt_of x p x.delivery refl in
-    let dealt' : IsDealt y.delivery = dealt_of y q y.delivery refl in
-    let says : (x.says ≡ y.says) × (delivery_lines x.delivery ++ r ≡ delivery_lines y.delivery ++ s) =
-    read_until IsStationWord (λ d. station_word_line (codes "say ") d.0 d.1) read_say_line x.says y.says _ _ (station_words x.says p.said) (station_words y.says q.said) (says_end x.delivery r dealt)
-    (says_end y.delivery s dealt') (append_cancel_left head _ _ apart) in
-    let delivered : (x.delivery ≡ y.delivery) × (r ≡ s) = read_delivery x.delivery y.delivery r s dealt dealt' after after' says.1 in
-    ((λ i. record { says = says.0 i; delivery = delivered.0 i }), delivered.1)
-
--- the rounds from a number on
-abbrev rounds_text : ℕ → List Turn → List ℕ
-rounds_text k turns = flat_map (λ t. turn_lines t.0 t.1) (enumerate_from k turns)
-
--- a round begins with its number
-no_to : (k : ℕ) (turns : List Turn) → NoTo (rounds_text k turns)
-unfolding NoTo
-no_to k [] t e = cc
-no_to k (turn ∷ turns) t e = other_letter 114 116 _ _ e (λ same. omega arith)
-
--- round after round
-read_rounds : (k : ℕ) (xs ys : List Turn) → All IsTurn xs → All IsTurn ys → rounds_text k xs ≡ rounds_text k ys → xs ≡ ys
-read_rounds k [] [] p q e = refl
-read_rounds k [] (y ∷ ys) p q e = cc
-read_rounds k (x ∷ xs) [] p q e = cc
-read_rounds k (x ∷ xs) (y ∷ ys) p q e =
-    let first : (x ≡ y) × (rounds_text (k + 1) xs ≡ rounds_text (k + 1) ys) = read_turn k x y _ _ (All-head IsTurn x xs p) (All-head IsTurn y ys q) (no_to (k + 1) xs) (no_to (k + 1) ys) e in
-    let rest : xs ≡ ys = read_rounds (k + 1) xs ys (All-tail IsTurn x xs p) (All-tail IsTurn y ys q) first.1 in
-    cc (first.0, rest)
-
--- the rounds after the head line
-pub script_tells : (xs ys : List Turn) → IsScript xs → IsScript ys → script_text xs ≡ script_text ys → xs ≡ ys
-script_tells xs ys p q e = read_rounds 0 xs ys p.are_turns q.are_turns (append_cancel_left (line (codes "dcscript 1")) _ _ e)
 
 -- any line
 read_any_line : IsReadable IsTextLine line
