@@ -20,8 +20,8 @@ NETS = {
     "dc_graph_rules.specs.Graphs": "reached",
     "dc_graph_rules.specs.Forests": "spreads chain",
     "dc_net_rules.specs.Runs": "rounds_of run_of is_alike",
-    "dc_net_rules.specs.Twins": "admits demands shifts twin",
-    "dc_net_rules.specs.Steerings": "changes_up_to steering_of steered_net",
+    "dc_twin_rules.specs.Twins": "admits demands shifts twin",
+    "dc_steering_rules.specs.Steerings": "changes_up_to steering_of steered_net",
     "dc_spec.specs.Symbols": "power_below",
 }
 AGREEMENT = {

@@ -18,9 +18,9 @@ use Rattle.dc_spec.specs.Frames.{hello, send, all}
 use Rattle.dc_formats.specs.Frames.{frame_bytes}
 use Rattle.dc_run_texts.specs.View.{view_text}
 use Rattle.dc_run_texts.specs.Logs.{logs_text}
-use Rattle.dc_run_texts.specs.Shifts.{shifts_text}
-use Rattle.dc_net_rules.specs.Steerings.{Steering}
-use Rattle.dc_run_texts.specs.Steering.{steering_text}
+use Rattle.dc_twin_rules.specs.Shifts.{shifts_text}
+use Rattle.dc_steering_rules.specs.Steerings.{Steering}
+use Rattle.dc_steering_rules.specs.SteeringText.{steering_text}
 use Rattle.dc_run_texts.specs.Trial.{trial_text}
 use Rattle.dc_cases.proofs.SharedValues.{two_ends, small_value, first_version, constant, dealing, exchange, zero_pair, nothing}
 

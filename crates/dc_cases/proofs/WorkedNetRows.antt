@@ -13,11 +13,11 @@ use Rattle.dc_key_rules.specs.PairKeys.{key_word, symbols}
 use Rattle.dc_hub_rules.specs.Hubs.{Arrival, waiting, complete, no_station, over, old, ahead, repeated, replies, round_start}
 use Rattle.dc_net_rules.specs.Runs.{rounds_of, run_of, is_alike}
 use Rattle.dc_spec.specs.Symbols.{power_below}
-use Rattle.dc_net_rules.specs.Steerings.{changes_up_to, first_difference, steering_of, steered_net}
+use Rattle.dc_steering_rules.specs.Steerings.{changes_up_to, first_difference, steering_of, steered_net}
 use Rattle.dc_net_rules.specs.Bags.{value, text, count_in}
 use Rattle.dc_spec.specs.Frames.{hello, send}
 use Rattle.dc_net_rules.specs.SessionTexts.{says}
-use Rattle.dc_net_rules.specs.Twins.{admits, inverse, shifts, twin}
+use Rattle.dc_twin_rules.specs.Twins.{admits, inverse, shifts, twin}
 use Rattle.dc_cases.proofs.SharedValues.{two_ends, small_value, nothing, of_values, first_version, said, dealing, zero_pair, some_pair, ring, exchange, split_pair, three_stations}
 
 -- the pair whose second pad 17 alone is 1

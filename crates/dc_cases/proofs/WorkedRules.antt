@@ -2,12 +2,10 @@
 -- show that two streams were exchanged.
 use Rattle.std.specs.Prelude.{◌≡◌, refl, ℕ, List, [], ◌∷◌, replicate, slice_set, Some, None}
 use Rattle.dc_spec.specs.Words.{word_of, zero_word}
-use Rattle.dc_spec.specs.Scripts.{Term, Said, all_sum, each, Turn, rule_word}
+use Rattle.dc_spec.specs.Scripts.{Term, all_sum, Turn, rule_word}
 use Rattle.dc_spec.specs.Net.{Net}
-use Rattle.dc_graph_rules.specs.Graphs.{reached}
-use Rattle.dc_graph_rules.specs.Forests.{spreads, chain}
-use Rattle.dc_net_rules.specs.Runs.{rounds_of, run_of}
-use Rattle.dc_net_rules.specs.Twins.{shifts, twin}
+use Rattle.dc_net_rules.specs.Runs.{run_of}
+use Rattle.dc_twin_rules.specs.Twins.{shifts, twin}
 use Rattle.dc_net_rules.specs.Agreement.{disagreement, script_rule}
 use Rattle.dc_run_texts.specs.View.{view_text}
 use Rattle.dc_cases.proofs.SharedValues.{two_ends, of_values, zero_pair, said, constant}

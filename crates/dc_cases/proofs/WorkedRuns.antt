@@ -6,16 +6,16 @@ use Rattle.dc_station_rules.proofs.Computing.{computing as one_station}
 use Rattle.dc_graph_rules.specs.Graphs.{reached}
 use Rattle.dc_graph_rules.specs.Forests.{spreads, chain}
 use Rattle.dc_net_rules.specs.Runs.{rounds_of, run_of}
-use Rattle.dc_net_rules.specs.Twins.{shifts, twin}
+use Rattle.dc_twin_rules.specs.Twins.{shifts, twin}
 use Rattle.dc_spec.specs.Symbols.{power_below}
-use Rattle.dc_net_rules.specs.Steerings.{changes_up_to, steering_of}
+use Rattle.dc_steering_rules.specs.Steerings.{changes_up_to, steering_of}
 use Rattle.dc_net_rules.specs.SessionTexts.{says}
 use Rattle.dc_formats.specs.TextFile.{text_file}
 use Rattle.dc_formats.specs.Frames.{frames_bytes}
 use Rattle.dc_run_texts.specs.View.{view_text}
 use Rattle.dc_run_texts.specs.Logs.{logs_text}
-use Rattle.dc_run_texts.specs.Shifts.{shifts_text}
-use Rattle.dc_run_texts.specs.Steering.{steering_text}
+use Rattle.dc_twin_rules.specs.Shifts.{shifts_text}
+use Rattle.dc_steering_rules.specs.SteeringText.{steering_text}
 use Rattle.dc_cases.proofs.SharedValues.{two_ends, nothing, zero_pair, ring, exchange, split_pair, three_stations}
 use Rattle.dc_cases.proofs.WorkedFiles.{lone_net}
 

@@ -7,7 +7,7 @@ use Rattle.dc_spec.specs.Net.{Net}
 use Rattle.dc_key_rules.specs.PairKeys.{symbols}
 use Rattle.dc_net_rules.specs.Runs.{rounds_of, run_of}
 use Rattle.dc_spec.specs.Symbols.{power_below}
-use Rattle.dc_net_rules.specs.Steerings.{changes_up_to, steered, steering_of, with_pair, steered_net}
+use Rattle.dc_steering_rules.specs.Steerings.{changes_up_to, steered, steering_of, with_pair, steered_net}
 use Rattle.dc_station_rules.proofs.Computing.{computing}
 use Rattle.dc_cases.proofs.SharedValues.{two_ends, of_values, zero_pair, first_version, constant, dealing}
 

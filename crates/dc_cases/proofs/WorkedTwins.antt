@@ -8,7 +8,7 @@ use Rattle.dc_spec.specs.Net.{Net}
 use Rattle.dc_graph_rules.specs.Graphs.{KeyGraph, reached}
 use Rattle.dc_graph_rules.specs.Forests.{spreads, chain, parents, children, stations_below, below_sums}
 use Rattle.dc_net_rules.specs.Runs.{rounds_of, run_of}
-use Rattle.dc_net_rules.specs.Twins.{inverse, moved, shifts, twin}
+use Rattle.dc_twin_rules.specs.Twins.{inverse, moved, shifts, twin}
 use Rattle.dc_station_rules.proofs.Computing.{computing}
 use Rattle.dc_cases.proofs.SharedValues.{two_ends, of_values, first_version, some_pair}
 

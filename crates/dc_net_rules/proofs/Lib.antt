@@ -1,4 +1,2 @@
-pub mod Admitting
+pub mod Alike
 pub mod RunLemmas
-pub mod SteeringLemmas
-pub mod OneSteering

@@ -4,9 +4,7 @@ use Rattle.std.specs.Prelude.{ℕ, Bool, true, false, not, ◌&&◌, ◌||◌, �
 use Rattle.std.specs.List.{range_with_len, list_any, enumerate_from, reduce}
 use Rattle.std.specs.Option.{is_some}
 use Rattle.dc_spec.specs.Lists.{is_among}
-use Rattle.dc_spec.specs.Entries.{Stream}
 use Rattle.dc_spec.specs.Scripts.{Term, Said, Delivery, all_sum, each, stations_of, Turn}
-use Rattle.dc_spec.specs.Pads.{Pair}
 use Rattle.dc_spec.specs.Net.{Net}
 use Rattle.dc_net_rules.specs.Runs.{honest_stations}
 

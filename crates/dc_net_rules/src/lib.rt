@@ -1,9 +1,6 @@
-//! Runs, twins and steerings as definitions.
+//! Runs of nets, and whether the parts of a net agree, as definitions.
 #![tactic(auto)]
 
 mod laws;
 
-pub use laws::{
-    admits_as_computed, alike_as_computed, computed_changes_steer, steerings_are_computed,
-    sums_are_alike,
-};
+pub use laws::{alike_as_computed, sums_are_alike};

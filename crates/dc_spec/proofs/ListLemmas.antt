@@ -1,9 +1,9 @@
 -- Which numbers stand in a list, in what a filter keeps, and in a range.
 use Rattle.std.proofs.Common.{◌≡◌, ℕ, Bool, true, false, cond, ◌||◌, List, [], ◌∷◌, filter, find, nat_eq, Option, Some, None, refl, sym, subst, inl, inr, eq-eqb, zero, suc, ◌+◌, ◌<◌, ◌≤◌, arith, eqb-true, ◌∙◌, ◌≢◌, true≢false}
-use Rattle.std.specs.List.{list_any, range_with_len}
+use Rattle.std.specs.List.{list_any, list_all, range_with_len}
 use Rattle.dc_spec.specs.Lists.{is_among}
 use Rattle.dc_spec.proofs.Booleans.{or_cases, or_first, or_second}
-use Rattle.std.proofs.lemmas.Bool.{eqb-false, cases_Bool}
+use Rattle.std.proofs.lemmas.Bool.{eqb-false, cases_Bool, and_from, and_parts}
 
 -- nothing is not something
 pub nothing_found : (x : ℕ) (o : Option ℕ) → o ≡ Some x → o ≡ None → ⊥
@@ -108,3 +108,16 @@ from_range a (suc n) x h = elim (or_cases (nat_eq x a) (is_among (range_with_len
   | inl same ↦ (let e : x ≡ a = eqb-true x a same in omega arith)
   | inr later ↦ (let more : a + 1 ≤ x = from_range (a + 1) n x later in omega arith)
 ]
+
+-- a test that all of a list pass holds at each that stands in it
+pub all_at : (p : ℕ → Bool) (xs : List ℕ) → list_all p xs ≡ true → (x : ℕ) → is_among xs x ≡ true → p x ≡ true
+all_at p [] all x there = absurd (true≢false (sym there))
+all_at p (y ∷ ys) all x there = elim (or_cases (nat_eq x y) (is_among ys x) there) [
+  | inl same ↦ subst (λ (z : ℕ). p z ≡ true) (sym (eqb-true x y same)) (and_parts _ _ all).0
+  | inr later ↦ all_at p ys (and_parts _ _ all).1 x later
+]
+
+-- and conversely
+pub all_from : (p : ℕ → Bool) (xs : List ℕ) → ((x : ℕ) → is_among xs x ≡ true → p x ≡ true) → list_all p xs ≡ true
+all_from p [] each = refl
+all_from p (y ∷ ys) each = and_from _ _ (each y (or_first (nat_eq y y) (is_among ys y) (eq-eqb y y refl))) (all_from p ys (λ x there. each x (or_second (nat_eq x y) (is_among ys x) there)))

@@ -4,7 +4,7 @@ use Rattle.std.specs.Prelude.{ℕ, List, [], ◌++◌, ◌==◌, if◌then◌els
 use Rattle.std.specs.List.{flat_map, enumerate_from}
 use Rattle.std.specs.Fmt.{decimal}
 use Rattle.dc_spec.specs.Text.{line, symbol_text}
-use Rattle.dc_net_rules.specs.Steerings.{Steering}
+use Rattle.dc_steering_rules.specs.Steerings.{Steering}
 
 -- the line of one change; no line where it is 0
 abbrev pub change_line : List ℕ → ℕ → ℕ → List ℕ

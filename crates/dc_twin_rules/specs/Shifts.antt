@@ -1,7 +1,7 @@
 -- The text of the shifts of a twin: what is added to the first pads of the edges of its forest.
 use Rattle.std.specs.Prelude.{ℕ, Bool, List, [], ◌==◌, if◌then◌else◌, codes}
 use Rattle.std.specs.List.{flat_map, list_all, enumerate_from}
-use Rattle.dc_net_rules.specs.Twins.{Shift}
+use Rattle.dc_twin_rules.specs.Twins.{Shift}
 use Rattle.dc_formats.specs.WordLines.{pair_word_line}
 
 -- whether a word is all zeros

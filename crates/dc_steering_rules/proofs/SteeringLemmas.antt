@@ -8,7 +8,7 @@ use Rattle.std.proofs.lemmas.Bool.{eqb-false, lt-leb, cases_Bool}
 use Rattle.std.proofs.lemmas.Nat.{mul-mod_first, mul-mod_second}
 use Rattle.std.specs.List.{range_with_len}
 use Rattle.dc_spec.specs.Symbols.{AreSymbols, symbol_sub, symbol_inverse}
-use Rattle.dc_net_rules.specs.Steerings.{first_difference, steered_from, difference_at, steered_symbol, IsSteering, gained_symbol, next_change, changes_up_to, second_changes, first_change, first_changes}
+use Rattle.dc_steering_rules.specs.Steerings.{first_difference, steered_from, difference_at, steered_symbol, IsSteering, gained_symbol, next_change, changes_up_to, second_changes, first_change, first_changes}
 use Rattle.dc_spec.proofs.Booleans.{or_first, or_second}
 use Rattle.dc_spec.proofs.ListLemmas.{below_range}
 use Rattle.dc_spec.proofs.SumLemmas.{sum_by-same, sum_by-plus, sum_by-single}

@@ -1,47 +1,17 @@
--- Whether a permutation is admitted, and whether a run is alike, as it is computed.
-use Rattle.std.proofs.Common.{◌≡◌, ℕ, zero, suc, ◌+◌, ◌<◌, ◌≢◌, ◌↔◌, Bool, not, true, true≢false, List, [], ◌∷◌, length, get_or, slice_index, nat_eq, nat_lt, refl, sym, ◌∙◌, ap, subst, inl, inr, arith, eqb-true, eq-eqb, ltb-true, lt-ltb, zero-le}
+-- Whether a permutation is admitted, as it is computed.
+use Rattle.std.proofs.Common.{◌≡◌, ℕ, zero, suc, ◌+◌, ◌<◌, ◌≢◌, ◌↔◌, not, true, true≢false, List, [], ◌∷◌, length, get_or, slice_index, nat_eq, nat_lt, refl, sym, ◌∙◌, ap, subst, inl, inr, arith, eqb-true, eq-eqb, ltb-true, lt-ltb, zero-le}
 use Rattle.std.specs.Prelude.{AllPairs, IsTrue}
-use Rattle.std.specs.List.{range_with_len, list_all}
+use Rattle.std.specs.List.{range_with_len}
 use Rattle.std.proofs.lemmas.Bool.{and_from, and_parts, not-true, cases_Bool}
 use Rattle.std.proofs.lemmas.List.Kept.{AllPairs-cons}
 use Rattle.std.proofs.lemmas.List.Sums.{AllPass-from_list_all, list_all-from_AllPass}
-use Rattle.std.proofs.lemmas.Slice.Eq.{bytes_eq-Decides}
 use Rattle.dc_spec.specs.Net.{Net}
 use Rattle.dc_graph_rules.specs.Graphs.{IsKeyGraph, key_graph}
 use Rattle.dc_spec.specs.Lists.{is_among}
-use Rattle.dc_net_rules.specs.Runs.{Round, word_of_station, honest_stations, all_rounds, IsAlikeIn, IsAlike, is_alike_in, is_alike}
-use Rattle.dc_net_rules.specs.Twins.{IsPermutationOf, Admits, are_distinct, is_permutation_of, admits}
+use Rattle.dc_twin_rules.specs.Twins.{IsPermutationOf, Admits, are_distinct, is_permutation_of, admits}
 use Rattle.dc_spec.proofs.Booleans.{or_cases, or_first, or_second}
-use Rattle.dc_spec.proofs.ListLemmas.{in_range, below_range}
+use Rattle.dc_spec.proofs.ListLemmas.{in_range, below_range, all_at, all_from}
 use Rattle.dc_graph_rules.proofs.GraphLemmas.{joined-walks}
-
--- a test that all of a list pass holds at each that stands in it
-all_at : (p : ℕ → Bool) (xs : List ℕ) → list_all p xs ≡ true → (x : ℕ) → is_among xs x ≡ true → p x ≡ true
-all_at p [] all x there = absurd (true≢false (sym there))
-all_at p (y ∷ ys) all x there = elim (or_cases (nat_eq x y) (is_among ys x) there) [
-  | inl same ↦ subst (λ (z : ℕ). p z ≡ true) (sym (eqb-true x y same)) (and_parts _ _ all).0
-  | inr later ↦ all_at p ys (and_parts _ _ all).1 x later
-]
-
-all_from : (p : ℕ → Bool) (xs : List ℕ) → ((x : ℕ) → is_among xs x ≡ true → p x ≡ true) → list_all p xs ≡ true
-all_from p [] each = refl
-all_from p (y ∷ ys) each = and_from _ _ (each y (or_first (nat_eq y y) (is_among ys y) (eq-eqb y y refl))) (all_from p ys (λ x there. each x (or_second (nat_eq x y) (is_among ys x) there)))
-
--- a round is alike
-alike_in : (net : Net) (round : Round) → IsTrue (is_alike_in net round) ↔ IsAlikeIn net round
-alike_in net round =
-    let honest = honest_stations net in (
-      λ all i j honest_i honest_j. (bytes_eq-Decides (word_of_station round.received i) (word_of_station round.received j)).0 (all_at _ honest (all_at _ honest all i honest_i) j honest_j),
-      λ alike. all_from _ honest (λ i honest_i. all_from _ honest (λ j honest_j. (bytes_eq-Decides (word_of_station round.received i) (word_of_station round.received j)).1
-          (alike i j honest_i honest_j))),
-    )
-
--- a run is alike
-pub alike_is_computed : (net : Net) → IsTrue (is_alike net) ↔ IsAlike net
-alike_is_computed net = (
-  λ all k d low. (alike_in net (get_or (all_rounds net) k d)).0 (AllPass-from_list_all (is_alike_in net) (all_rounds net) all k d low),
-  λ alike. list_all-from_AllPass (is_alike_in net) (all_rounds net) (λ k d low. (alike_in net (get_or (all_rounds net) k d)).1 (alike k d low)),
-)
 
 -- an item of a list stands in it
 stands : (xs : List ℕ) (k d : ℕ) → k < length xs → is_among xs (get_or xs k d) ≡ true

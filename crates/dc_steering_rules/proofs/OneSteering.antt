@@ -5,11 +5,11 @@ use Rattle.std.proofs.lemmas.List.FromFn.{fill_by_all}
 use Rattle.std.proofs.lemmas.Nat.{mul-mod_first, mul-mod_second}
 use Rattle.std.specs.List.{range_with_len}
 use Rattle.dc_spec.specs.Symbols.{AreSymbols, symbol_sub, symbol_inverse}
-use Rattle.dc_net_rules.specs.Steerings.{first_difference, steered_from, difference_at, steered_symbol, IsSteering, gained_symbol, second_changes, first_change, first_changes}
+use Rattle.dc_steering_rules.specs.Steerings.{first_difference, steered_from, difference_at, steered_symbol, IsSteering, gained_symbol, second_changes, first_change, first_changes}
 use Rattle.dc_spec.proofs.ListLemmas.{below_range}
 use Rattle.dc_spec.proofs.SumLemmas.{sum_by-same, sum_by-plus, sum_by-single}
 use Rattle.dc_spec.proofs.InverseLemmas.{inverse-inverts}
-use Rattle.dc_net_rules.proofs.SteeringLemmas.{below_or_past, some_difference, symbol-below, split_at, in_reach, before_round, computed-steers}
+use Rattle.dc_steering_rules.proofs.SteeringLemmas.{below_or_past, some_difference, symbol-below, split_at, in_reach, before_round, computed-steers}
 
 -- a product divided by one factor is the other
 quotient : (s d : ℕ) → s < 65537 → 0 < d → d < 65537 → (s * d % 65537 * symbol_inverse d) % 65537 ≡ s

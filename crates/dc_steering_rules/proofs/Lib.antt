@@ -1,0 +1,2 @@
+pub mod SteeringLemmas
+pub mod OneSteering

@@ -1,0 +1,3 @@
+pub mod Steerings
+pub mod SteeringText
+pub mod Laws

@@ -1,0 +1,6 @@
+//! Twins of nets as definitions.
+#![tactic(auto)]
+
+mod laws;
+
+pub use laws::admits_as_computed;
