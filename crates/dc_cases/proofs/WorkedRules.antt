@@ -2,11 +2,9 @@
 -- show that two streams were exchanged.
 use Rattle.std.specs.Prelude.{◌≡◌, refl, ℕ, List, [], ◌∷◌, replicate, slice_set, Some, None}
 use Rattle.dc_spec.specs.Words.{word_of, zero_word}
-use Rattle.dc_spec.specs.Scripts.{Term, Said, all_sum, each, Turn, rule_word}
+use Rattle.dc_spec.specs.Scripts.{Term, all_sum, Turn, rule_word}
 use Rattle.dc_spec.specs.Net.{Net}
-use Rattle.dc_graph_rules.specs.Graphs.{reached}
-use Rattle.dc_graph_rules.specs.Forests.{spreads, chain}
-use Rattle.dc_net_rules.specs.Runs.{rounds_of, run_of}
+use Rattle.dc_net_rules.specs.Runs.{run_of}
 use Rattle.dc_net_rules.specs.Twins.{shifts, twin}
 use Rattle.dc_net_rules.specs.Agreement.{disagreement, script_rule}
 use Rattle.dc_run_texts.specs.View.{view_text}
@@ -57,8 +55,12 @@ unfolding computing
 faulty_rules = refl
 
 -- two terms for one symbol, one of a symbol of the last word of round 1, and a third for another symbol
-rule_of_three_terms : rule_word (record { station = 0; word = two_ends 1 65536; terms = record { to = 0; factor = 2; station = 0; round = 0; symbol = 0 }
-      ∷ record { to = 0; factor = 3; station = 1; round = 1; symbol = 15 } ∷ record { to = 15; factor = 65536; station = 1; round = 0; symbol = 0 } ∷ [] })
+rule_of_three_terms : rule_word (record {
+  station = 0;
+  word = two_ends 1 65536;
+  terms = record { to = 0; factor = 2; station = 0; round = 0; symbol = 0 }
+      ∷ record { to = 0; factor = 3; station = 1; round = 1; symbol = 15 } ∷ record { to = 15; factor = 65536; station = 1; round = 0; symbol = 0 } ∷ [];
+})
     (two_ends 10 11 ∷ two_ends 20 21 ∷ two_ends 30 31 ∷ two_ends 40 41 ∷ []) 2 ≡ two_ends 144 65516
 unfolding word_of
 rule_of_three_terms = refl
