@@ -2,6 +2,7 @@ pub mod SharedValues
 mod LimitNumbers
 pub mod OutsideCases
 pub mod WorkedFiles
+pub mod WithinLimits
 pub mod WorkedNetRows
 pub mod WorkedRules
 pub mod WorkedRuns

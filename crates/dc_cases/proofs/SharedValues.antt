@@ -3,7 +3,7 @@ use Rattle.std.specs.Prelude.{ℕ, ◌+◌, ◌*◌, ◌%◌, List, [], ◌∷�
 use Rattle.std.specs.List.{range_with_len}
 use Rattle.dc_spec.specs.Words.{zero_word}
 use Rattle.dc_spec.specs.Entries.{Stream}
-use Rattle.dc_spec.specs.Scripts.{Said, all_sum, each, Turn, Script}
+use Rattle.dc_spec.specs.Scripts.{Term, Said, all_sum, each, Turn, Script}
 use Rattle.dc_spec.specs.Pads.{Pair}
 use Rattle.dc_spec.specs.Net.{Net}
 
@@ -29,6 +29,10 @@ first_version turns = record { version = 1; rounds = turns }
 -- a station's word without terms
 abbrev pub constant : ℕ → List ℕ → Said
 constant i w = record { station = i; word = w; terms = [] }
+
+-- a term by its numbers in the order of its line: the symbol that gains, the factor, and the station, round and symbol that are named
+abbrev pub term_of : ℕ → ℕ → ℕ → ℕ → ℕ → Term
+term_of to factor i r symbol = record { to = to; factor = factor; station = i; round = r; symbol = symbol }
 
 -- a round in which a member says a word, and all receive the sum
 abbrev pub said : ℕ → List ℕ → Turn

@@ -1,5 +1,5 @@
 -- Formats computed on whole examples: the expected lines and bytes are written out, and each lemma holds by computation.
-use Rattle.std.specs.Prelude.{◌≡◌, List, [], ◌∷◌, ◌++◌, length, replicate, slice_set, codes, refl}
+use Rattle.std.specs.Prelude.{◌≡◌, true, false, List, [], ◌∷◌, ◌++◌, length, replicate, slice_set, codes, refl}
 use Rattle.std.specs.List.{range_with_len}
 use Rattle.std.specs.Fmt.{digits}
 use Rattle.dc_spec.specs.Words.{word_of, zero_word}
@@ -12,7 +12,7 @@ use Rattle.dc_spec.specs.Net.{Net, Run}
 use Rattle.dc_formats.specs.TextFile.{text_file, hex_text, ended, cut_off, file_lines}
 use Rattle.dc_formats.specs.KeyFile.{keys_bytes}
 use Rattle.dc_formats.specs.StreamFile.{stream_text}
-use Rattle.dc_formats.specs.ScriptFile.{script_text}
+use Rattle.dc_formats.specs.ScriptFile.{is_before, term_order, script_text}
 use Rattle.dc_formats.specs.ListFiles.{images_text, wanted_text}
 use Rattle.dc_spec.specs.Frames.{hello, send, all}
 use Rattle.dc_formats.specs.Frames.{frame_bytes}
@@ -22,7 +22,7 @@ use Rattle.dc_twin_rules.specs.Shifts.{shifts_text}
 use Rattle.dc_steering_rules.specs.Steerings.{Steering}
 use Rattle.dc_steering_rules.specs.SteeringText.{steering_text}
 use Rattle.dc_run_texts.specs.Trial.{trial_text}
-use Rattle.dc_cases.proofs.SharedValues.{two_ends, small_value, first_version, constant, dealing, exchange, zero_pair, nothing}
+use Rattle.dc_cases.proofs.SharedValues.{two_ends, small_value, first_version, constant, term_of, dealing, exchange, zero_pair, nothing}
 
 -- a text file is its lines, each with a line feed
 lines_and_ends : text_file (codes "ab" ∷ [] ∷ codes "~" ∷ []) ≡ 97 ∷ 98 ∷ 10 ∷ 10 ∷ 126 ∷ 10 ∷ []
@@ -118,6 +118,28 @@ quiet_script_file = refl
 empty_script_file : script_text (first_version []) ≡ text_file (codes "dcscript 1" ∷ [])
 unfolding digits
 empty_script_file = refl
+
+-- version 2: in the first round a member's word has two terms, in the second one of the delivered words has one
+abbrev pub ruled_script : Script
+ruled_script = record {
+  version = 2;
+  rounds = record { says = record (constant 2 zero_word) { terms = term_of 0 2 0 0 15 ∷ term_of 15 65536 1 0 0 ∷ [] } ∷ []; delivery = all_sum }
+      ∷ record { says = constant 2 zero_word ∷ []; delivery = each (record (constant 0 (two_ends 0 2)) { terms = term_of 3 255 2 1 7 ∷ [] } ∷ constant 1 (two_ends 0 3) ∷ []) } ∷ [];
+}
+
+-- its file
+ruled_script_file : script_text ruled_script ≡ text_file (codes "dcscript 2" ∷ codes "round 0" ∷ codes "say 2 00000000000000000000000000000000000000000000000000000000000000000000000000000000"
+    ∷ codes "add 0 00002 0 0 15" ∷ codes "add 15 10000 1 0 0" ∷ codes "all" ∷ codes "round 1" ∷ codes "say 2 00000000000000000000000000000000000000000000000000000000000000000000000000000000"
+    ∷ codes "to 0 00000000000000000000000000000000000000000000000000000000000000000000000000000002" ∷ codes "add 3 000ff 2 1 7"
+    ∷ codes "to 1 00000000000000000000000000000000000000000000000000000000000000000000000000000003" ∷ [])
+unfolding word_of digits
+ruled_script_file = refl
+
+-- terms are in order by the symbol that gains, then by station, round and symbol; the factor does not count
+order_of_terms : is_before (term_order (term_of 0 9 5 5 5)) (term_order (term_of 1 1 0 0 0)) ∷ is_before (term_order (term_of 1 1 4 9 9)) (term_order (term_of 1 1 5 0 0))
+    ∷ is_before (term_order (term_of 1 1 4 9 0)) (term_order (term_of 1 1 4 8 5)) ∷ is_before (term_order (term_of 1 1 4 9 5)) (term_order (term_of 1 1 4 9 6))
+    ∷ is_before (term_order (term_of 1 1 4 9 5)) (term_order (term_of 1 2 4 9 5)) ∷ [] ≡ true ∷ true ∷ false ∷ true ∷ false ∷ []
+order_of_terms = refl
 
 -- stations 0 and 2 change places
 images_file : images_text exchange ≡ text_file (codes "2" ∷ codes "1" ∷ codes "0" ∷ codes "3" ∷ [])

@@ -55,8 +55,12 @@ unfolding computing
 faulty_rules = refl
 
 -- two terms for one symbol, one of a symbol of the last word of round 1, and a third for another symbol
-rule_of_three_terms : rule_word (record { station = 0; word = two_ends 1 65536; terms = record { to = 0; factor = 2; station = 0; round = 0; symbol = 0 }
-      ∷ record { to = 0; factor = 3; station = 1; round = 1; symbol = 15 } ∷ record { to = 15; factor = 65536; station = 1; round = 0; symbol = 0 } ∷ [] })
+rule_of_three_terms : rule_word (record {
+  station = 0;
+  word = two_ends 1 65536;
+  terms = record { to = 0; factor = 2; station = 0; round = 0; symbol = 0 }
+      ∷ record { to = 0; factor = 3; station = 1; round = 1; symbol = 15 } ∷ record { to = 15; factor = 65536; station = 1; round = 0; symbol = 0 } ∷ [];
+})
     (two_ends 10 11 ∷ two_ends 20 21 ∷ two_ends 30 31 ∷ two_ends 40 41 ∷ []) 2 ≡ two_ends 144 65516
 unfolding word_of
 rule_of_three_terms = refl

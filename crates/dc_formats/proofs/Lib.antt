@@ -5,3 +5,7 @@ pub mod BinaryLaws
 pub mod Sizes
 pub mod SpelledLines
 pub mod TextLaws
+pub mod ScriptTurns
+pub mod ScriptLaws
+pub mod ScriptWords
+pub mod ScriptSizes

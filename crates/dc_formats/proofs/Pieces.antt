@@ -138,7 +138,7 @@ hex_text_figures (b ∷ bytes) are =
     (hex_text_figures bytes (All-tail (λ b. b < 256) b bytes are))
 
 -- a symbol
-symbol_text_figures : (x : ℕ) → AreFigures (symbol_text x)
+pub symbol_text_figures : (x : ℕ) → AreFigures (symbol_text x)
 symbol_text_figures x =
     digits_are_figures (x / 65536 % 16 ∷ x / 4096 % 16 ∷ x / 256 % 16 ∷ x / 16 % 16 ∷ x % 16 ∷ [])
     (digit_below x 65536, (digit_below x 4096, (digit_below x 256, (digit_below x 16, (omega arith, tt)))))

@@ -1,19 +1,18 @@
--- Lists, streams and scripts in text tell what they are made of.
-use Rattle.std.proofs.Common.{◌≡◌, ℕ, ◌+◌, ◌<◌, ◌≤◌, ◌≢◌, List, [], ◌∷◌, ◌++◌, length, get_or, All, refl, sym, ◌∙◌, ap, codes, arith}
-use Rattle.std.specs.List.{flat_map, enumerate_from}
+-- Lists and streams in text tell what they are made of.
+use Rattle.std.proofs.Common.{◌≡◌, ℕ, ◌<◌, ◌≤◌, ◌≢◌, List, [], ◌∷◌, ◌++◌, get_or, All, sym, ◌∙◌, ap, arith}
+use Rattle.std.specs.List.{flat_map}
 use Rattle.std.specs.Fmt.{decimal}
-use Rattle.std.proofs.lemmas.List.{append_assoc, append_cancel_left}
-use Rattle.std.proofs.lemmas.List.Elements.{All-head, All-tail, All-weaker}
+use Rattle.std.proofs.lemmas.List.{append_assoc}
+use Rattle.std.proofs.lemmas.List.Elements.{All-weaker}
 use Rattle.std.proofs.lemmas.Fmt.{decimal_injective}
 use Rattle.dc_spec.specs.Words.{IsWord}
 use Rattle.dc_spec.specs.Text.{word_text, line}
 use Rattle.dc_spec.specs.Entries.{Stream}
 use Rattle.dc_formats.specs.TextFile.{IsTextLine, text_file, AreBytes, hex_text}
-use Rattle.dc_formats.specs.WordLines.{station_word_line}
 use Rattle.dc_spec.specs.Values.{IsValue}
 use Rattle.dc_formats.specs.StreamFile.{short_line, long_line, coin_line, stream_text, IsMessage, IsStream}
 use Rattle.dc_formats.specs.ListFiles.{images_text, AreImages, wanted_text, AreWanted}
-use Rattle.dc_formats.proofs.Readable.{IsReadable, Ends, without_rest, read_until, read_to_byte}
+use Rattle.dc_formats.proofs.Readable.{IsReadable, Ends, without_rest, read_until}
 use Rattle.dc_formats.proofs.Pieces.{bytes_of, IsFigure, AreFigures, hex_text_injective, hex_text_figures, word_text_figures, decimal_figures, read_word_text, read_line}
 
 -- a line is not empty
@@ -22,11 +21,11 @@ line_there [] t e = cc
 line_there (c ∷ text) t e = cc
 
 -- digits have no line feed
-no_feed : (t : List ℕ) → AreFigures t → All (λ c. c ≢ 10) t
+pub no_feed : (t : List ℕ) → AreFigures t → All (λ c. c ≢ 10) t
 no_feed t figures = All-weaker IsFigure (λ c. c ≢ 10) (λ c figure same. absurd (omega arith)) t figures
 
 -- nor a blank
-no_blank : (t : List ℕ) → AreFigures t → All (λ c. c ≢ 32) t
+pub no_blank : (t : List ℕ) → AreFigures t → All (λ c. c ≢ 32) t
 no_blank t figures = All-weaker IsFigure (λ c. c ≢ 32) (λ c figure same. absurd (omega arith)) t figures
 
 -- a number in a line of its own
@@ -68,7 +67,7 @@ read_coin_line : IsReadable (λ c. c < 16) coin_line
 read_coin_line c d r s p q e = read_number_line c d r s (omega arith) (omega arith) cc
 
 -- texts with other first letters differ
-other_letter : (c d : ℕ) (a b : List ℕ) → c ∷ a ≡ d ∷ b → c ≢ d → ⊥
+pub other_letter : (c d : ℕ) (a b : List ℕ) → c ∷ a ≡ d ∷ b → c ≢ d → ⊥
 other_letter c d a b e differ = differ (ap (λ t. get_or t 0 0) e)
 
 -- no short stands after the shorts

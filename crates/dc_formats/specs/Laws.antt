@@ -1,6 +1,6 @@
 -- Laws of the formats: no two contents have the same bytes, texts are printable lines, and no file
 -- is longer than its read limit.
-use Rattle.std.specs.Prelude.{ℕ, ◌+◌, ◌*◌, ◌<◌, ◌≤◌, ◌≡◌, List, [], length, map, All, false}
+use Rattle.std.specs.Prelude.{ℕ, ◌+◌, ◌*◌, ◌<◌, ◌≤◌, ◌≡◌, List, length, map, All, false}
 use Rattle.dc_spec.specs.Limits as limit
 use Rattle.dc_spec.specs.Lists.{is_among}
 use Rattle.dc_spec.specs.Scripts.{delivered_words, stations_of, Turn, Script}

@@ -33,6 +33,13 @@ pub fn streams_tell_content()
     ensures { StreamsTellContent }
 {}
 
+/// The bytes of a script file tell its version, and for each round who says what, and what is
+/// delivered, each word with its terms.
+#[tactic(auto, using(crate::proofs::ScriptLaws::script_tells))]
+pub fn scripts_tell_content()
+    ensures { ScriptsTellContent }
+{}
+
 /// The bytes of a file of images tell the list.
 #[tactic(auto, using(crate::proofs::TextLaws::images_tell))]
 pub fn images_tell_content()
@@ -52,20 +59,22 @@ pub fn frames_tell_content()
 {}
 
 /// No line of these files holds anything but printable characters.
-#[tactic(auto, using(crate::proofs::SpelledLines::stream_is_text, crate::proofs::SpelledLines::images_are_text, crate::proofs::SpelledLines::wanted_is_text))]
+#[tactic(auto, using(crate::proofs::SpelledLines::stream_is_text, crate::proofs::SpelledLines::script_is_text, crate::proofs::SpelledLines::images_are_text, crate::proofs::SpelledLines::wanted_is_text))]
 pub fn spelled_texts_are_text_files()
     ensures streams { StreamsAreText }
+    ensures scripts { ScriptsAreText }
     ensures images { ImagesAreText }
     ensures wanted_words { WantedWordsAreText }
 {}
 
 /// No file of these formats is longer than its read limit, a script where a net can have its
 /// rounds. A transcript has at most half of its limit and eight bytes.
-#[tactic(auto, using(crate::proofs::Sizes::transcript_size, crate::proofs::Sizes::keys_size, crate::proofs::Sizes::stream_size, crate::proofs::Sizes::images_size, crate::proofs::Sizes::wanted_size, crate::proofs::Sizes::transcript_short))]
+#[tactic(auto, using(crate::proofs::Sizes::transcript_size, crate::proofs::Sizes::keys_size, crate::proofs::Sizes::stream_size, crate::proofs::ScriptSizes::script_size, crate::proofs::Sizes::images_size, crate::proofs::Sizes::wanted_size, crate::proofs::Sizes::transcript_short))]
 pub fn spelled_files_are_within_limits()
     ensures transcripts { TranscriptsAreWithin }
     ensures key_files { KeyFilesAreWithin }
     ensures streams { StreamsAreWithin }
+    ensures scripts { ScriptsAreWithin }
     ensures images { ImagesAreWithin }
     ensures wanted_words { WantedWordsAreWithin }
     ensures short_transcripts { TranscriptsAreShort }
