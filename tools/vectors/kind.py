@@ -51,7 +51,12 @@ def use_lines(kind, text):
 
 def crates_of(kind):
     """The crates of the repository that a kind's names are from."""
-    return {module.split(".")[0] for module in kind.homes} - {"std"}
+    return {module.split(".")[0] for module in kind.homes if module.startswith("dc_")}
+
+
+def toolchain_of(kind):
+    """The crates of the toolchain that a kind's names are from, but for std, which every crate uses."""
+    return {module.split(".")[0] for module in kind.homes if not module.startswith("dc_")} - {"std"}
 
 
 def listing(items):

@@ -2,7 +2,6 @@
 
 REASONS = {
     "script_limits": "too long for a lemma",
-    "trials": "the net of a trial is not defined yet",
 }
 
 UNCHECKED = {file: lambda case, reason=reason: reason for file, reason in REASONS.items()}
