@@ -1,1 +1,4 @@
 pub mod EndsWalk
+pub mod KeyTests
+pub mod Flags
+pub mod FirstBy

@@ -6,6 +6,8 @@ mod ends;
 mod fault;
 mod key_tests;
 mod net;
+mod stations;
+mod stream_tests;
 
 pub use checked_net::CheckedNet;
 pub use fault::NetFault;
