@@ -1,15 +1,13 @@
 -- The tests of the keys are walks along ends.
-use Rattle.std.proofs.Common.{◌≡◌, ℕ, ◌+◌, ◌<◌, Bool, true, false, cond, not, ◌&&◌, ◌||◌, eqb, List, [], ◌∷◌, length, map, get_or, Option, Some, None, option_map, refl, sym, ap, ◌∙◌, arith}
+use Rattle.std.proofs.Common.{◌≡◌, ℕ, ◌+◌, ◌<◌, Bool, true, false, cond, not, ◌&&◌, ◌||◌, eqb, List, [], ◌∷◌, length, map, Option, Some, None, option_map, refl, sym, ap, ◌∙◌, arith}
 use Rattle.std.specs.List.{list_any, find}
 use Rattle.std.proofs.lemmas.List.{get_or-map, length-map, map-id}
 use Rattle.dc_spec.specs.Pads.{Pair}
 use Rattle.dc_spec.specs.Net.{Net}
 use Rattle.dc_formats.specs.KeyFile.{ArePairsRising}
-use Rattle.dc_graph.specs.Graph.{IsEdgeBefore, AreRisingEdges}
+use Rattle.dc_graph.specs.Graph.{AreRisingEdges}
 use Rattle.dc_net_rules.specs.Agreement.{key_missing, key_stray, missing_key, stray_key}
-use Rattle.dc_net.specs.declared.fault.NetFault.{NetFault}
 use Rattle.dc_net.specs.declared.fault.NetFault.TheVariants.{KeyMissing, KeyStray}
-use Rattle.dc_net.specs.Faults.{fault_of}
 use Rattle.dc_net.specs.Walks.{are_same_ends, first_absent}
 use Rattle.dc_net.specs.Tests.{told}
 
@@ -47,7 +45,7 @@ stray_same : (ps : List Pair) (es : List (ℕ × ℕ))
 stray_same [] es = refl
 stray_same (p ∷ ps) es = elim (list_any (λ e. eqb e.0 p.u && eqb e.1 p.v) es) as
     (λ b. option_map (λ pair. key_stray pair.u pair.v) (cond (not b) (Some p) (find (λ pair. not (list_any (λ e. eqb e.0 pair.u && eqb e.1 pair.v) es)) ps))
-      ≡ option_map (λ e. key_stray e.0 e.1) (cond (not b) (Some (pair_ends p)) (first_absent (map pair_ends ps) es)))
+    ≡ option_map (λ e. key_stray e.0 e.1) (cond (not b) (Some (pair_ends p)) (first_absent (map pair_ends ps) es)))
     [ true ↦ stray_same ps es | false ↦ refl ]
 
 told_missing : (o : Option (ℕ × ℕ)) → told (option_map (λ e. key_missing e.0 e.1) o) ≡ option_map (λ e. KeyMissing e.0 e.1) o

@@ -1,6 +1,5 @@
 -- A flag for each station.
-use Rattle.std.specs.Prelude.{ℕ, ◌≡◌, Bool, false, List, length, slice_index_or}
-use Rattle.dc_spec.specs.Limits.{most_stations}
+use Rattle.std.specs.Prelude.{ℕ, ◌≡◌, Bool, false, List, slice_index_or}
 use Rattle.dc_spec.specs.Lists.{is_among}
 
 -- for each station whether it is a member; past the flags no station is one

@@ -1,5 +1,5 @@
 -- The tests of a net, in three groups: the keys, the streams, the script.
-use Rattle.std.specs.Prelude.{ℕ, ◌==◌, List, [], ◌∷◌, length, Option, Some, None, option_map, if◌then◌else◌}
+use Rattle.std.specs.Prelude.{◌==◌, [], ◌∷◌, length, Option, Some, None, option_map, if◌then◌else◌}
 use Rattle.std.specs.List.{range_with_len, enumerate_from}
 use Rattle.dc_spec.specs.Net.{Net}
 use Rattle.dc_net_rules.specs.Agreement.{Disagreement, key_stations, key_words, script_rounds, first_of, first_by, missing_key, stray_key, stream_fault, station_fault, delivery_fault, rule_fault}
@@ -34,7 +34,18 @@ streams_test net = first_by (stream_fault net) (range_with_len 0 net.stations)
 abbrev pub rounds_test : Net → Option Disagreement
 rounds_test net = if length net.script.rounds == net.words then None else Some (script_rounds (length net.script.rounds) net.words)
 
+-- the stations of the words of each round
+abbrev pub stations_tests : Net → Option Disagreement
+stations_tests net = first_by (station_fault net) (enumerate_from 0 net.script.rounds)
+
+-- the delivery of each round
+abbrev pub deliveries_test : Net → Option Disagreement
+deliveries_test net = first_by (delivery_fault net) (enumerate_from 0 net.script.rounds)
+
+-- the terms of each round
+abbrev pub rules_test : Net → Option Disagreement
+rules_test net = first_by (rule_fault net) (enumerate_from 0 net.script.rounds)
+
 -- the tests of the script
 abbrev pub script_test : Net → Option Disagreement
-script_test net = let turns = enumerate_from 0 net.script.rounds in
-    first_of (rounds_test net ∷ first_by (station_fault net) turns ∷ first_by (delivery_fault net) turns ∷ first_by (rule_fault net) turns ∷ [])
+script_test net = first_of (rounds_test net ∷ stations_tests net ∷ deliveries_test net ∷ rules_test net ∷ [])

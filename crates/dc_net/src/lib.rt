@@ -6,6 +6,9 @@ mod ends;
 mod fault;
 mod key_tests;
 mod net;
+mod script_rules;
+mod script_stations;
+mod script_tests;
 mod stations;
 mod stream_tests;
 

@@ -1,4 +1,4 @@
-use Rattle.std.proofs.Common.{◌≡◌, sym, ap, subst, ◌∙◌, Some, None}
+use Rattle.std.proofs.Common.{sym, ap, subst, ◌∙◌, Some, None}
 use Rattle.dc_spec.specs.Net.{Net}
 use Rattle.dc_spec.specs.Pads.{Keys}
 use Rattle.dc_formats.specs.KeyFile.{ArePairsRising}

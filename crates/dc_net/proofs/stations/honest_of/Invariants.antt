@@ -1,4 +1,4 @@
-use Rattle.std.proofs.Common.{◌≡◌, ◌≤◌, length, get_or, not, false}
+use Rattle.std.proofs.Common.{◌≡◌, ◌≤◌, get_or, not, false}
 use Rattle.std.specs.List.{range_with_len, filter}
 use Rattle.arrayvec.specs.ArrayVec.{array_vec_len}
 use Rattle.dc_net.proofs.stations.honest_of.Given as goal
