@@ -1,0 +1,17 @@
+//! A whole net: its parts, whether they agree, and its run.
+#![tactic(auto)]
+
+mod checked_net;
+mod ends;
+mod fault;
+mod key_tests;
+mod net;
+mod script_rules;
+mod script_stations;
+mod script_tests;
+mod stations;
+mod stream_tests;
+
+pub use checked_net::CheckedNet;
+pub use fault::NetFault;
+pub use net::{Net, Streams};
