@@ -1,6 +1,6 @@
 -- The texts of streams, scripts and lists are text files: every line holds printable characters alone.
-use Rattle.std.proofs.Common.{◌≡◌, ℕ, ◌+◌, ◌<◌, ◌^◌, true, ◌&&◌, nat_le, List, [], ◌∷◌, ◌++◌, length, All, refl, sym, codes, arith}
-use Rattle.std.specs.List.{flat_map, list_all, enumerate_from}
+use Rattle.std.proofs.Common.{◌≡◌, ℕ, ◌<◌, ◌^◌, true, ◌&&◌, nat_le, List, [], ◌∷◌, ◌++◌, All, refl, sym, codes, arith}
+use Rattle.std.specs.List.{flat_map, list_all}
 use Rattle.std.specs.Fmt.{decimal}
 use Rattle.std.proofs.lemmas.List.{append-nil}
 use Rattle.std.proofs.lemmas.List.Elements.{All-nil, All-cons, All-append, All-weaker, All-head, All-tail}
@@ -78,4 +78,3 @@ station_line : (beginning : List ℕ) (d : ℕ × List ℕ) → IsTextLine begin
 station_line beginning d p lt = line_is_file _
     (joined _ (word_text d.1) (joined _ (codes " ") (joined beginning (decimal d.0) p (figures_printable (decimal d.0) (decimal_figures d.0 (omega arith)))) (printable_by_test (codes " ") refl))
     (figures_printable (word_text d.1) (word_text_figures d.1)))
-

@@ -1,19 +1,18 @@
 -- Lists, streams and scripts in text tell what they are made of.
-use Rattle.std.proofs.Common.{◌≡◌, ℕ, ◌+◌, ◌<◌, ◌≤◌, ◌≢◌, List, [], ◌∷◌, ◌++◌, length, get_or, All, refl, sym, ◌∙◌, ap, codes, arith}
-use Rattle.std.specs.List.{flat_map, enumerate_from}
+use Rattle.std.proofs.Common.{◌≡◌, ℕ, ◌<◌, ◌≤◌, ◌≢◌, List, [], ◌∷◌, ◌++◌, get_or, All, sym, ◌∙◌, ap, arith}
+use Rattle.std.specs.List.{flat_map}
 use Rattle.std.specs.Fmt.{decimal}
-use Rattle.std.proofs.lemmas.List.{append_assoc, append_cancel_left}
-use Rattle.std.proofs.lemmas.List.Elements.{All-head, All-tail, All-weaker}
+use Rattle.std.proofs.lemmas.List.{append_assoc}
+use Rattle.std.proofs.lemmas.List.Elements.{All-weaker}
 use Rattle.std.proofs.lemmas.Fmt.{decimal_injective}
 use Rattle.dc_spec.specs.Words.{IsWord}
 use Rattle.dc_spec.specs.Text.{word_text, line}
 use Rattle.dc_spec.specs.Entries.{Stream}
 use Rattle.dc_formats.specs.TextFile.{IsTextLine, text_file, AreBytes, hex_text}
-use Rattle.dc_formats.specs.WordLines.{station_word_line}
 use Rattle.dc_spec.specs.Values.{IsValue}
 use Rattle.dc_formats.specs.StreamFile.{short_line, long_line, coin_line, stream_text, IsMessage, IsStream}
 use Rattle.dc_formats.specs.ListFiles.{images_text, AreImages, wanted_text, AreWanted}
-use Rattle.dc_formats.proofs.Readable.{IsReadable, Ends, without_rest, read_until, read_to_byte}
+use Rattle.dc_formats.proofs.Readable.{IsReadable, Ends, without_rest, read_until}
 use Rattle.dc_formats.proofs.Pieces.{bytes_of, IsFigure, AreFigures, hex_text_injective, hex_text_figures, word_text_figures, decimal_figures, read_word_text, read_line}
 
 -- a line is not empty
