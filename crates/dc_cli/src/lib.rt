@@ -5,7 +5,6 @@ mod command;
 mod fault_line;
 mod outcome;
 mod pieces;
-mod printing;
 mod reading;
 mod summing;
 mod top;

@@ -3,11 +3,11 @@
 ghost use Rattle.dc_cli.specs.Summing.{SumRan, SummedFile, SummedBytes, TellsFault};
 
 use crate::outcome::{FileFault, Outcome};
-use crate::printing::put_words;
 use crate::reading::read_file;
 use dc_edge::{Shelf, Sink};
 use dc_field::{Refusal, TRANSCRIPT_LIMIT, Text, Words};
 use dc_superpose::{TranscriptFault, read_sums};
+use dc_view::put_words;
 use std::alloc::Global;
 
 /// Prints the superposed words of a transcript.
