@@ -1,6 +1,7 @@
 -- Text that is filled in piece by piece.
-use Rattle.std.proofs.Common.{◌≡◌, ℕ, ◌+◌, List, [], ◌++◌, length, take, sym, ◌∙◌, append_assoc, arith, length-append}
-use Rattle.std.proofs.lemmas.List.{append-nil}
+use Rattle.std.proofs.Common.{◌≡◌, ℕ, ◌+◌, List, [], ◌∷◌, ◌++◌, length, take, sym, ◌∙◌, append_assoc, arith, length-append}
+use Rattle.std.specs.List.{flat_map}
+use Rattle.std.proofs.lemmas.List.{append-nil, flat_map_more}
 use Rattle.dc_view.specs.Filling.{Fills}
 
 -- nothing is filled in
@@ -13,3 +14,10 @@ Fills-then a b at mid end x y z p q = record {
   place = omega (arith, p.place, q.place, length-append a b);
   filled = q.filled ∙ rw (p.filled, append_assoc);
 }
+
+-- the text of one more item
+pub Fills-more : {X : Type 0} (f : X → List ℕ) (xs : List X) (x : X) (at mid end : ℕ) (a b c : List ℕ)
+    → Fills (flat_map f xs) at a b mid → Fills (f x) mid b c end → Fills (flat_map f (xs ++ x ∷ [])) at a c end
+Fills-more f xs x at mid end a b c p q =
+    let text : flat_map f (xs ++ x ∷ []) ≡ flat_map f xs ++ f x = sym (flat_map_more f [] xs x) in
+    rw text (Fills-then (flat_map f xs) (f x) at mid end a b c p q)

@@ -1,2 +1,3 @@
 pub mod PutSoFar
 pub mod FillLemmas
+pub mod ListSteps

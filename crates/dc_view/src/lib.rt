@@ -3,6 +3,7 @@
 
 mod filling;
 mod lines;
+mod pieces;
 mod words;
 
 pub use words::put_words;
