@@ -1,7 +1,8 @@
 -- Lists that loops walk, by one more item.
-use Rattle.std.proofs.Common.{◌≡◌, ℕ, zero, suc, ◌+◌, ◌<◌, ◌≤◌, Bool, cond, List, [], ◌∷◌, ◌++◌, length, get_or, take, filter, refl, ap, sym, ◌∙◌, arith, add-one, add-zero}
+use Rattle.std.proofs.Common.{◌≡◌, ℕ, zero, suc, ◌+◌, ◌-◌, ◌<◌, ◌≤◌, Bool, cond, List, [], ◌∷◌, ◌++◌, length, get_or, take, filter, refl, ap, sym, ◌∙◌, arith, add-one, add-zero}
 use Rattle.std.specs.Prelude.{zip}
-use Rattle.std.specs.List.{enumerate_from, range_with_len}
+use Rattle.std.specs.List.{enumerate_from, flat_map, range_with_len}
+use Rattle.std.proofs.lemmas.List.Concat.{flat_map-append}
 use Rattle.std.proofs.lemmas.List.Elements.{filter-append}
 
 -- a range in two parts
@@ -39,3 +40,19 @@ zip-more (x ∷ xs) (y ∷ ys) zero d e low low' = refl
 zip-more {X = X} {Y = Y} (x ∷ xs) (y ∷ ys) (suc i) d e low low' =
     let later = zip-more xs ys i d e (omega arith) (omega arith) in
     rw (add-one (suc i)) (ap (λ (rest : List (X × Y)). (x, y) ∷ rest) (rw (add-one i) at later))
+
+-- a range with its last number apart
+pub range-more : (a b : ℕ) → a ≤ b → range_with_len a (b + 1 - a) ≡ range_with_len a (b - a) ++ b ∷ []
+range-more a b le =
+    let parts : b + 1 - a ≡ b - a + 1 = omega arith in
+    let last : a + (b - a) ≡ b = omega arith in
+    rw parts (range-split a (b - a) 1 ∙ ap (λ (n : ℕ). range_with_len a (b - a) ++ n ∷ []) last)
+
+-- the texts of the first numbers of a range, then those of the others
+pub flat_map-range : (f : ℕ → List ℕ) (a b c : ℕ) → a ≤ b → b ≤ c
+    → flat_map f (range_with_len a (c - a)) ≡ flat_map f (range_with_len a (b - a)) ++ flat_map f (range_with_len b (c - b))
+flat_map-range f a b c le le' =
+    let parts : c - a ≡ b - a + (c - b) = omega arith in
+    let next : a + (b - a) ≡ b = omega arith in
+    rw parts (ap (flat_map f) (range-split a (b - a) (c - b) ∙ ap (λ (n : ℕ). range_with_len a (b - a) ++ range_with_len n (c - b)) next)
+    ∙ flat_map-append f (range_with_len a (b - a)) (range_with_len b (c - b)))

@@ -1,8 +1,8 @@
 -- A text that is put piece by piece.
-use Rattle.std.proofs.Common.{◌≡◌, ℕ, List, [], ◌++◌, take, drop, Result, Ok, Err, sym, ap, ◌∙◌, append_assoc, subst}
+use Rattle.std.proofs.Common.{◌≡◌, ℕ, ◌+◌, ◌<◌, List, [], ◌++◌, length, get_or, take, drop, Result, Ok, Err, refl, sym, ap, ◌∙◌, append_assoc, subst}
 use Rattle.std.specs.Prelude.{IsErr}
 use Rattle.std.specs.List.{flat_map}
-use Rattle.std.proofs.lemmas.List.{append-nil, take-append-drop}
+use Rattle.std.proofs.lemmas.List.{append-nil, take-append-drop, at_drop_more}
 use Rattle.std.proofs.lemmas.List.Concat.{flat_map-append}
 use Rattle.dc_spec.specs.Outside.{SinkState}
 use Rattle.dc_edge.specs.Sink.{Puts}
@@ -55,3 +55,15 @@ pub ItemsPut-stops : {X : Type 0} (f : X → List ℕ) (n : ℕ) (xs : List X) (
     → PutSoFar whole (flat_map f xs) s0 s1 → Puts (flat_map f (take n xs)) s1 s2 (Err failed) → IsErr r → Puts whole s0 s2 r
 ItemsPut-stops f n xs whole s0 s1 s2 failed r p more is =
     PutSoFar-stops whole (flat_map f xs) (flat_map f (take n xs)) (flat_map f (drop n xs)) s0 s1 s2 failed r (flat_map-split f n xs) p more is
+
+-- the text of one more item was put
+pub ItemPut-then : {X : Type 0} (f : X → List ℕ) (xs : List X) (i : ℕ) (d x : X) (whole : List ℕ) (s0 s1 s2 : SinkState) (u : Unit) → i < length xs → x ≡ get_or xs i d
+    → PutSoFar whole (flat_map f (drop i xs)) s0 s1 → Puts (f x) s1 s2 (Ok u) → PutSoFar whole (flat_map f (drop (i + 1) xs)) s0 s2
+ItemPut-then f xs i d x whole s0 s1 s2 u low is p more =
+    PutSoFar-then whole (flat_map f (drop i xs)) (f x) (flat_map f (drop (i + 1) xs)) s0 s1 s2 u (at_drop_more (flat_map f) xs i d low ∙ rw is refl) p more
+
+-- a put of the text of one more item failed
+pub ItemPut-stops : {X : Type 0} (f : X → List ℕ) (xs : List X) (i : ℕ) (d x : X) (whole : List ℕ) (s0 s1 s2 : SinkState) (failed : Failed) (r : Result Unit Failed) → i < length xs → x ≡ get_or xs i d
+    → PutSoFar whole (flat_map f (drop i xs)) s0 s1 → Puts (f x) s1 s2 (Err failed) → IsErr r → Puts whole s0 s2 r
+ItemPut-stops f xs i d x whole s0 s1 s2 failed r low is p more err =
+    PutSoFar-stops whole (flat_map f (drop i xs)) (f x) (flat_map f (drop (i + 1) xs)) s0 s1 s2 failed r (at_drop_more (flat_map f) xs i d low ∙ rw is refl) p more err

@@ -3,6 +3,7 @@
 
 mod filling;
 mod lines;
+mod pads;
 mod pieces;
 mod words;
 
