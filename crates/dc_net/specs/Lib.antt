@@ -1,0 +1,3 @@
+pub mod KeyPart
+pub mod Seat
+pub mod WordList
