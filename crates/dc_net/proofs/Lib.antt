@@ -1,2 +1,3 @@
+pub mod EndsWalk
 pub mod Columns
 pub mod Seats

@@ -1,6 +1,15 @@
 //! A whole net: its parts, whether they agree, and its run.
 #![tactic(auto)]
 
+mod checked_net;
+mod ends;
+mod fault;
 mod key_part;
+mod key_tests;
+mod net;
 mod seat;
 mod word_list;
+
+pub use checked_net::CheckedNet;
+pub use fault::NetFault;
+pub use net::{Net, Streams};
