@@ -1,3 +1,4 @@
 pub mod EndsWalk
 pub mod Columns
 pub mod Seats
+pub mod RowWalk

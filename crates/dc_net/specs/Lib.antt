@@ -4,3 +4,4 @@ pub mod Walks
 pub mod KeyPart
 pub mod Seat
 pub mod WordList
+pub mod Rows

@@ -7,6 +7,7 @@ mod fault;
 mod key_part;
 mod key_tests;
 mod net;
+mod rows;
 mod seat;
 mod word_list;
 
