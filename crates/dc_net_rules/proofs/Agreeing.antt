@@ -1,5 +1,5 @@
 -- What follows for each part of a net whose parts agree.
-use Rattle.std.proofs.Common.{◌≡◌, ℕ, ◌+◌, ◌<◌, not, Bool, true, false, cond, ◌||◌, ◌==◌, if◌then◌else◌, nat_lt, List, [], ◌∷◌, ◌++◌, length, get_or, map, filter, find, slice_index_or, Option, Some, None, option_map, refl, sym, ap, subst, ◌∙◌, arith, inl, inr, true≢false, eqb-true, ltb-true}
+use Rattle.std.proofs.Common.{◌≡◌, ℕ, ◌+◌, ◌<◌, not, Bool, true, false, cond, ◌||◌, ◌==◌, if◌then◌else◌, nat_lt, List, [], ◌∷◌, ◌++◌, length, get_or, map, filter, find, slice_index_or, Option, Some, None, refl, sym, ap, subst, ◌∙◌, arith, inl, inr, true≢false, eqb-true, ltb-true}
 use Rattle.std.specs.List.{All, list_any, reduce, range_with_len, enumerate_from}
 use Rattle.std.specs.List.Sorted.{IsStrictlyIncreasing}
 use Rattle.std.specs.Option.{is_some}
@@ -10,6 +10,7 @@ use Rattle.std.proofs.lemmas.List.Kept.{AllPairs-from_increasing}
 use Rattle.dc_spec.specs.Lists.{is_among}
 use Rattle.dc_spec.specs.Scripts.{Term, Said, Delivery, all_sum, each, stations_of, Turn}
 use Rattle.dc_spec.specs.Net.{Net}
+use Rattle.dc_spec.proofs.Options.{map-none}
 use Rattle.dc_spec.proofs.ListLemmas.{passes_kept}
 use Rattle.dc_net_rules.specs.Runs.{honest_stations, script_turn}
 use Rattle.dc_net_rules.specs.Agreement.{Disagreement, key_stations, key_words, script_rounds, first_of, first_by, missing_key, stray_key, stream_fault, stream_missing, stream_stray, least_in_one, station_dealt, station_fault, delivery_fault, rule_fault, names_no_station, names_member_now, say_by_faulty_rule, dealt_by_faulty_rule, script_station, script_rule, Agrees}
@@ -24,11 +25,6 @@ first_none (Some x) rest h = let clash : ⊥ = cc in absurd clash
 none_along : {A B : Type 0} (f : A → Option B) (xs : List A) → first_by f xs ≡ None → All (λ x. f x ≡ None) xs
 none_along f [] h = λ k d within. absurd (omega arith)
 none_along f (x ∷ xs) h = let both = first_none (f x) (map f xs) h in All-cons (λ y. f y ≡ None) x xs both.0 (none_along f xs both.1)
-
--- nothing comes of nothing alone
-unmapped : {A B : Type 0} (f : A → B) (o : Option A) → option_map f o ≡ None → o ≡ None
-unmapped f None h = refl
-unmapped f (Some x) h = let clash : ⊥ = cc in absurd clash
 
 -- what a test that fails says
 test_holds : (b : Bool) (d : Disagreement) → (if b then None else Some d) ≡ None → b ≡ true
@@ -141,13 +137,13 @@ pub says_match : (net : Net) → Agrees net → (t : ℕ) → t < net.words → 
 says_match net agrees t within =
     let all = all_agree net agrees in
     let at = at_round net (station_fault net) t (let e = all.rounds in omega arith) all.stations in
-    (first_none (least_in_one (stations_of (script_turn net t).says) net.coalition) (station_dealt net (script_turn net t).delivery ∷ []) (unmapped (script_station t) _ at)).0
+    (first_none (least_in_one (stations_of (script_turn net t).says) net.coalition) (station_dealt net (script_turn net t).delivery ∷ []) (map-none (script_station t) _ at)).0
 
 pub dealt_match : (net : Net) → Agrees net → (t : ℕ) → t < net.words → (dealt : List Said) → (script_turn net t).delivery ≡ each dealt → least_in_one (stations_of dealt) (honest_stations net) ≡ None
 dealt_match net agrees t within dealt is =
     let all = all_agree net agrees in
     let at = at_round net (station_fault net) t (let e = all.rounds in omega arith) all.stations in
-    let both = first_none (least_in_one (stations_of (script_turn net t).says) net.coalition) (station_dealt net (script_turn net t).delivery ∷ []) (unmapped (script_station t) _ at) in
+    let both = first_none (least_in_one (stations_of (script_turn net t).says) net.coalition) (station_dealt net (script_turn net t).delivery ∷ []) (map-none (script_station t) _ at) in
     let delivery = first_none (station_dealt net (script_turn net t).delivery) [] both.1 in
     subst (λ (d : Delivery). station_dealt net d ≡ None) is delivery.0
 
@@ -163,9 +159,9 @@ pub say_terms : (net : Net) → Agrees net → (t : ℕ) → t < net.words → A
 say_terms net agrees t within =
     let all = all_agree net agrees in
     let at = at_round net (rule_fault net) t (let e = all.rounds in omega arith) all.rules in
-    let both = first_none (say_by_faulty_rule net t (script_turn net t).says) (dealt_by_faulty_rule net (script_turn net t).delivery ∷ []) (unmapped (script_rule t) _ at) in
+    let both = first_none (say_by_faulty_rule net t (script_turn net t).says) (dealt_by_faulty_rule net (script_turn net t).delivery ∷ []) (map-none (script_rule t) _ at) in
     let p : Said → Bool = λ said. list_any (λ term. names_no_station net term || names_member_now net t term) said.terms in
-    let failing = none_found p (script_turn net t).says (unmapped (λ said. said.station) _ both.0) in
+    let failing = none_found p (script_turn net t).says (map-none (λ said. said.station) _ both.0) in
     λ k d low. λ j e less.
     let fails = none_passes (λ term. names_no_station net term || names_member_now net t term) (get_or (script_turn net t).says k d).terms (failing k d low) j e less in
     named_below net (get_or (get_or (script_turn net t).says k d).terms j e) (both_fail _ _ fails).0
@@ -175,9 +171,9 @@ pub dealt_terms : (net : Net) → Agrees net → (t : ℕ) → t < net.words →
 dealt_terms net agrees t within dealt is =
     let all = all_agree net agrees in
     let at = at_round net (rule_fault net) t (let e = all.rounds in omega arith) all.rules in
-    let both = first_none (say_by_faulty_rule net t (script_turn net t).says) (dealt_by_faulty_rule net (script_turn net t).delivery ∷ []) (unmapped (script_rule t) _ at) in
+    let both = first_none (say_by_faulty_rule net t (script_turn net t).says) (dealt_by_faulty_rule net (script_turn net t).delivery ∷ []) (map-none (script_rule t) _ at) in
     let later = first_none (dealt_by_faulty_rule net (script_turn net t).delivery) [] both.1 in
     let found : dealt_by_faulty_rule net (each dealt) ≡ None = subst (λ (d : Delivery). dealt_by_faulty_rule net d ≡ None) is later.0 in
-    let failing = none_found (λ said. list_any (names_no_station net) said.terms) dealt (unmapped (λ said. said.station) _ found) in
+    let failing = none_found (λ said. list_any (names_no_station net) said.terms) dealt (map-none (λ said. said.station) _ found) in
     λ k d low. λ j e less.
     named_below net (get_or (get_or dealt k d).terms j e) (none_passes (names_no_station net) (get_or dealt k d).terms (failing k d low) j e less)
