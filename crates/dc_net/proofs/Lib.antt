@@ -1,1 +1,9 @@
 pub mod EndsWalk
+pub mod KeyTests
+pub mod Flags
+pub mod FirstBy
+pub mod Differences
+pub mod Refusals
+pub mod Columns
+pub mod Seats
+pub mod RowWalk

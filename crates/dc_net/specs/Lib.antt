@@ -1,3 +1,9 @@
 pub mod Faults
 pub mod Checked
 pub mod Walks
+pub mod Stations
+pub mod Tests
+pub mod KeyPart
+pub mod Seat
+pub mod WordList
+pub mod Rows

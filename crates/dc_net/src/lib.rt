@@ -4,8 +4,17 @@
 mod checked_net;
 mod ends;
 mod fault;
+mod key_part;
 mod key_tests;
 mod net;
+mod rows;
+mod script_rules;
+mod script_stations;
+mod script_tests;
+mod seat;
+mod stations;
+mod stream_tests;
+mod word_list;
 
 pub use checked_net::CheckedNet;
 pub use fault::NetFault;

@@ -4,9 +4,7 @@ use Rattle.std.specs.Prelude.{ℕ, Bool, true, false, not, ◌&&◌, ◌||◌, �
 use Rattle.std.specs.List.{range_with_len, list_any, enumerate_from, reduce}
 use Rattle.std.specs.Option.{is_some}
 use Rattle.dc_spec.specs.Lists.{is_among}
-use Rattle.dc_spec.specs.Entries.{Stream}
 use Rattle.dc_spec.specs.Scripts.{Term, Said, Delivery, all_sum, each, stations_of, Turn}
-use Rattle.dc_spec.specs.Pads.{Pair}
 use Rattle.dc_spec.specs.Net.{Net}
 use Rattle.dc_net_rules.specs.Runs.{honest_stations}
 
@@ -105,16 +103,16 @@ abbrev pub disagreement : Net → Option Disagreement
 disagreement net =
     let turns = enumerate_from 0 net.script.rounds in
     first_of (
-      (if net.keys.stations == net.stations then None else Some (key_stations net.keys.stations net.stations))
-      ∷ (if net.keys.words == net.words then None else Some (key_words net.keys.words net.words))
-      ∷ missing_key net
-      ∷ stray_key net
-      ∷ first_by (stream_fault net) (range_with_len 0 net.stations)
-      ∷ (if length net.script.rounds == net.words then None else Some (script_rounds (length net.script.rounds) net.words))
-      ∷ first_by (station_fault net) turns
-      ∷ first_by (delivery_fault net) turns
-      ∷ first_by (rule_fault net) turns
-      ∷ [])
+    (if net.keys.stations == net.stations then None else Some (key_stations net.keys.stations net.stations))
+    ∷ (if net.keys.words == net.words then None else Some (key_words net.keys.words net.words))
+    ∷ missing_key net
+    ∷ stray_key net
+    ∷ first_by (stream_fault net) (range_with_len 0 net.stations)
+    ∷ (if length net.script.rounds == net.words then None else Some (script_rounds (length net.script.rounds) net.words))
+    ∷ first_by (station_fault net) turns
+    ∷ first_by (delivery_fault net) turns
+    ∷ first_by (rule_fault net) turns
+    ∷ [])
 
 -- the parts of a net agree
 abbrev pub Agrees : Net → Type 0

@@ -1,6 +1,6 @@
 -- The run of a net: round after round the words of all stations, their sum, and what each station
 -- receives.
-use Rattle.std.specs.Prelude.{ℕ, zero, suc, ◌≡◌, ◌==◌, not, if◌then◌else◌, List, [], ◌∷◌, ◌++◌, length, map, filter, flat_map, slice_index_or, None, unwrap_or, IsTrue, All, Bool}
+use Rattle.std.specs.Prelude.{ℕ, zero, suc, ◌≡◌, not, if◌then◌else◌, List, [], ◌∷◌, ◌++◌, length, map, filter, flat_map, slice_index_or, None, unwrap_or, IsTrue, All, Bool}
 use Rattle.std.specs.List.{range_with_len, list_all}
 use Rattle.std.specs.Str.{bytes_eq}
 use Rattle.dc_spec.specs.Words.{zero_word, word_add, word_sum}
