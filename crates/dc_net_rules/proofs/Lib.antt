@@ -5,3 +5,4 @@ pub mod OneSteering
 pub mod RoundLemmas
 pub mod RisingLists
 pub mod Agreeing
+pub mod RunSizes

@@ -3,8 +3,12 @@
 
 mod filling;
 mod lines;
+mod net_text;
 mod pads;
 mod pieces;
+mod rounds;
+mod view;
 mod words;
 
+pub use view::put_view;
 pub use words::put_words;

@@ -14,13 +14,25 @@ use crate::lines::{LINE_BYTES, fill_pair_line};
 use dc_edge::{Failed, Sink};
 use dc_field::{Sym, Word};
 use dc_graph::Coalition;
-use dc_keys::PairKey;
+use dc_keys::{KeyFile, PairKey};
 
 /// How many lines one piece has at most.
 const LINES_AT_ONCE: u16 = 256;
 
 /// Puts the pads of each pair that has an end in the coalition.
-pub(crate) fn put_pairs<K: Sink>(
+pub(crate) fn put_keys<K: Sink>(
+    coalition: &Coalition,
+    keys: &KeyFile,
+    out: &mut K,
+) -> Result<(), Failed>
+    ensures { Puts (flat_map (known_lines coalition.now keys.now.words) keys.now.pairs)
+        (K.state out.old) (K.state out.new) result }
+{
+    put_pairs(coalition, keys.words, keys.pairs.as_slice(), out)
+}
+
+/// Puts the pads of each of some pairs that has an end in the coalition.
+fn put_pairs<K: Sink>(
     coalition: &Coalition,
     words: u16,
     pairs: &[PairKey],
