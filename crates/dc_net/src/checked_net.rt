@@ -6,11 +6,11 @@ ghost use Rattle.dc_net.specs.Checked.{IsChecked, Checks};
 ghost use Rattle.dc_net.specs.Tests.{told};
 
 use crate::fault::NetFault;
-use crate::key_tests::keys_fault;
+use crate::key_checks::keys_fault;
 use crate::net::Net;
-use crate::script_tests::script_fault;
+use crate::script_checks::script_fault;
 use crate::stations::{honest_of, member_flags};
-use crate::stream_tests::streams_fault;
+use crate::stream_checks::streams_fault;
 use std::marker::Model;
 
 /// A net whose parts agree: the keys are for its edges, each honest station has a stream, and the

@@ -4,16 +4,16 @@
 mod checked_net;
 mod ends;
 mod fault;
+mod key_checks;
 mod key_part;
-mod key_tests;
 mod net;
 mod rows;
+mod script_checks;
 mod script_rules;
 mod script_stations;
-mod script_tests;
 mod seat;
 mod stations;
-mod stream_tests;
+mod stream_checks;
 mod word_list;
 
 pub use checked_net::CheckedNet;

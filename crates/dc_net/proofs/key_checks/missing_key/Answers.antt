@@ -3,8 +3,8 @@ use Rattle.dc_spec.specs.Net.{Net}
 use Rattle.dc_spec.specs.Pads.{Keys}
 use Rattle.dc_formats.specs.KeyFile.{ArePairsRising}
 use Rattle.dc_graph.specs.Graph.{AreRisingEdges}
-use Rattle.dc_net.proofs.KeyTests.{pairs_rise, edges_rise, missing_told}
-use Rattle.dc_net.proofs.key_tests.missing_key.Goals as goal
+use Rattle.dc_net.proofs.KeyChecks.{pairs_rise, edges_rise, missing_told}
+use Rattle.dc_net.proofs.key_checks.missing_key.Goals as goal
 
 -- both lists are in rising order
 pub first_absent-absent-requires : goal.first_absent-absent-requires

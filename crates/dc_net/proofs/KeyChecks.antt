@@ -59,11 +59,13 @@ told_stray (Some e) = refl
 pub missing_told : (net : Net) (es : List (ℕ × ℕ)) (ps : List Pair) (o : Option (ℕ × ℕ)) → es ≡ net.edges → ps ≡ net.keys.pairs
     → o ≡ first_absent (map (λ e. e) es) (map pair_ends ps) → option_map (λ e. KeyMissing e.0 e.1) o ≡ told (missing_key net)
 missing_told net es ps o edges pairs is =
-    let found : o ≡ first_absent net.edges (map pair_ends net.keys.pairs) = is ∙ ap (λ x. first_absent x (map pair_ends ps)) (map-id es ∙ edges) ∙ ap (λ x. first_absent net.edges (map pair_ends x)) pairs in
+    let found : o ≡ first_absent net.edges (map pair_ends net.keys.pairs) =
+    is ∙ ap (λ x. first_absent x (map pair_ends ps)) (map-id es ∙ edges) ∙ ap (λ x. first_absent net.edges (map pair_ends x)) pairs in
     ap (λ x. option_map (λ e. KeyMissing e.0 e.1) x) (found ∙ sym (missing_same net.edges net.keys.pairs)) ∙ sym (told_missing _)
 
 pub stray_told : (net : Net) (es : List (ℕ × ℕ)) (ps : List Pair) (o : Option (ℕ × ℕ)) → es ≡ net.edges → ps ≡ net.keys.pairs
     → o ≡ first_absent (map pair_ends ps) (map (λ e. e) es) → option_map (λ e. KeyStray e.0 e.1) o ≡ told (stray_key net)
 stray_told net es ps o edges pairs is =
-    let found : o ≡ first_absent (map pair_ends net.keys.pairs) net.edges = is ∙ ap (λ x. first_absent (map pair_ends ps) x) (map-id es ∙ edges) ∙ ap (λ x. first_absent (map pair_ends x) net.edges) pairs in
+    let found : o ≡ first_absent (map pair_ends net.keys.pairs) net.edges =
+    is ∙ ap (λ x. first_absent (map pair_ends ps) x) (map-id es ∙ edges) ∙ ap (λ x. first_absent (map pair_ends x) net.edges) pairs in
     ap (λ x. option_map (λ e. KeyStray e.0 e.1) x) found ∙ sym (told_stray _) ∙ sym (ap told (stray_same net.keys.pairs net.edges))

@@ -1,7 +1,7 @@
 use Rattle.std.proofs.Common.{◌≡◌, drop}
 use Rattle.std.specs.List.{enumerate_from}
 use Rattle.dc_net_rules.specs.Agreement.{first_by, delivery_fault}
-use Rattle.dc_net.proofs.script_tests.deliveries_fault.Given as goal
+use Rattle.dc_net.proofs.script_checks.deliveries_fault.Given as goal
 
 -- what is left to find is what was to be found
 abbrev pub invariant-loop-i : goal.invariant-loop-i
