@@ -99,7 +99,8 @@ fn is_faulty_dealt(net: &Net, said: &Said) -> bool
 /// round.
 fn is_faulty_in_say(net: &Net, flags: &[bool; STATIONS], round: u16, term: &Term) -> bool
     requires { AreFlags net.now.coalition flags.now }
-    ensures { result ≡ (names_no_station net.now term.now || names_member_now net.now round term.now) }
+    ensures { result ≡
+        (names_no_station net.now term.now || names_member_now net.now round term.now) }
 {
     is_no_station(net, term) || (term.round == round && is_member(flags, term.station))
 }
