@@ -7,3 +7,5 @@ pub mod Refusals
 pub mod Columns
 pub mod Seats
 pub mod RowWalk
+pub mod RoundWords
+pub mod SeatLists

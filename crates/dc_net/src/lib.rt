@@ -1,17 +1,20 @@
 //! A whole net: its parts, whether they agree, and its run.
 #![tactic(auto)]
 
+mod book;
 mod checked_net;
 mod ends;
 mod fault;
 mod key_part;
 mod key_tests;
 mod net;
+mod publishing;
 mod rows;
 mod script_rules;
 mod script_stations;
 mod script_tests;
 mod seat;
+mod seating;
 mod stations;
 mod stream_tests;
 mod word_list;
