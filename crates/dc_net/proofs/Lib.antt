@@ -9,3 +9,5 @@ pub mod Seats
 pub mod RowWalk
 pub mod RoundWords
 pub mod SeatLists
+pub mod Playing
+pub mod Recording

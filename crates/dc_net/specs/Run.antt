@@ -62,6 +62,7 @@ said_row coalition n says before f =
 -- what a run asks of the script's turn in a round that so many words precede: each member says a
 -- word, each honest station that is dealt a word is in order, and terms name words that are there
 pub record IsPlayable (net : Net) (before : ℕ) (turn : Turn) : Type 0 where
+  pub as_many : length turn.says ≡ length net.coalition
   pub members : stations_of turn.says ≡ members_of net.coalition net.stations
   pub says : All (IsWithin (before + net.stations) net.stations) turn.says
   pub honest : (dealt : List Said) → turn.delivery ≡ each dealt → stations_of dealt ≡ honest_stations net

@@ -20,6 +20,7 @@ pub(crate) fn publish(words: &mut WordList, said: &mut WordList, coalition: &Coa
     requires members { stations_of says.now ≡ members_of coalition.now stations }
     requires within { All (IsWithin (length words.old.words + stations) stations) says.now }
     ensures room { words.new.room ≡ words.old.room }
+    ensures count { length words.new.words ≡ length words.old.words + stations }
     ensures said_room { said.new.room ≡ said.old.room }
     ensures row { (f : ℕ → List ℕ) → AreWordsOf f (others_of coalition.now stations) honest.now →
         words.new.words ≡ words.old.words ++ said_row coalition.now stations says.now words.old.words f }
