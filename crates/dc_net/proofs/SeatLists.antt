@@ -4,6 +4,8 @@ use Rattle.std.specs.List.{range_with_len}
 use Rattle.std.specs.Option.{is_some}
 use Rattle.std.proofs.lemmas.List.{length-map, get_or-map, same_lists, length_push, length-drop}
 use Rattle.std.proofs.lemmas.List.FromFn.{map-range_with_len_more}
+use Rattle.std.proofs.lemmas.List.FromFn.{length-range_with_len}
+use Rattle.std.proofs.lemmas.List.Sums.{length-filter, count_by-le-length}
 use Rattle.dc_spec.specs.Lists.{is_among}
 use Rattle.dc_spec.specs.Entries.{Stream}
 use Rattle.dc_spec.specs.Net.{Net}
@@ -13,6 +15,14 @@ use Rattle.dc_net.specs.Checked.{IsChecked}
 use Rattle.dc_net.specs.Seat.{SeatState, with_heard}
 use Rattle.dc_net.specs.Run.{seat_at, seats_after}
 use Rattle.dc_net.proofs.RowWalk.{passing, passed_over}
+
+-- there are no more honest stations than stations
+pub few_honest : (net : Net) → length (honest_stations net) ≤ net.stations
+few_honest net =
+    let kept = length-filter (λ i. not (is_among net.coalition i)) (range_with_len 0 net.stations) in
+    let few = count_by-le-length (λ i. not (is_among net.coalition i)) (range_with_len 0 net.stations) in
+    let all = length-range_with_len 0 net.stations in
+    omega arith
 
 -- where each seat has taken its word, all have
 pub all_taken : (heard : List (List ℕ)) (seats more : List SeatState) → length more ≡ length seats

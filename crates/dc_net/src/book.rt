@@ -1,6 +1,6 @@
 //! What a run records.
 
-ghost use Rattle.std.specs.Prelude.{◌≡◌, ◌+◌, ◌*◌, ◌<◌, [], length, IfOk};
+ghost use Rattle.std.specs.Prelude.{◌≡◌, ◌+◌, ◌*◌, ◌<◌, ◌≤◌, [], length, IfOk};
 ghost use Rattle.dc_net_rules.specs.Runs.{honest_stations, script_turn, rounds_of};
 
 use crate::net::Net;
@@ -31,7 +31,8 @@ impl Book {
     /// No round yet, in a session of a net with so many honest stations. All memory of the session is
     /// taken here.
     pub(crate) fn start(alloc: Global, net: &Net, count: usize) -> Result<Book, NoMemory>
-        requires { count ≡ length (honest_stations net.now) }
+        requires count { count ≡ length (honest_stations net.now) }
+        requires few { count ≤ 65535 }
         ensures { IfOk result (λ book. IsRecorded net.now [] book) }
     {
         let rounds = usize::from(net.words);

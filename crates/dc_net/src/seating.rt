@@ -15,8 +15,10 @@ use std::thread;
 use std::thread::Threads;
 
 /// The number of honest stations.
+#[tactic(auto, using(crate::proofs::SeatLists::few_honest))]
 pub(crate) fn honest_count(net: &Net) -> usize
-    ensures { result ≡ length (honest_stations net.now) }
+    ensures few { result ≤ 65535 }
+    ensures count { result ≡ length (honest_stations net.now) }
 {
     let coalition = &net.coalition;
     (0..net.graph.stations())
