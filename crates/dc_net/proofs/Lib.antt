@@ -11,3 +11,6 @@ pub mod RoundWords
 pub mod SeatLists
 pub mod Playing
 pub mod Recording
+pub mod SeatRounds
+pub mod Finishing
+pub mod RunIs

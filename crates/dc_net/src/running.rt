@@ -101,7 +101,7 @@ fn note_script(net: &Net)
     ensures members { IsStrictlyIncreasing net.now.coalition }
 {
     let script = &net.script;
-    let _ = script.version;
+    let _version = script.version;
     let _ = net.coalition.members();
 }
 

@@ -1,11 +1,12 @@
-use Rattle.std.proofs.Common.{◌≡◌, ◌+◌, ◌<◌, ◌≤◌, IfOk, length, map, ℕ, ◌-◌, ◌*◌}
-use Rattle.std.specs.List.Sorted.{IsStrictlyIncreasing}
-use Rattle.dc_formats.specs.ScriptFile.{IsScript}
-use Rattle.dc_station_rules.specs.Stations.{log_of, pending_counts, sent_of}
-use Rattle.dc_net_rules.specs.Runs.{honest_stations, script_turn, rounds_of, run_of}
-use Rattle.dc_net.specs.Checked.{IsChecked}
-use Rattle.dc_net.specs.Run.{IsRecorded, IsPlayable, seats_after}
+use Rattle.std.proofs.Common.{◌≡◌, length, vec_capacity}
+use Rattle.dc_net.proofs.Finishing.{EndedSoFar}
 use Rattle.dc_net.proofs.running.finished.Given as goal
 
+-- what the seats so far have, in room for all
 abbrev pub invariant-loop-seat : goal.invariant-loop-seat
-invariant-loop-seat l = ?
+invariant-loop-seat l = record {
+  ended : EndedSoFar l.fn.seats.items l.yielded l.seat-iterator.rest.items l.logs.items l.sents.items l.pending.items;
+  logs_room : vec_capacity l.logs ≡ length l.fn.seats.items;
+  sents_room : vec_capacity l.sents ≡ length l.fn.seats.items;
+  pending_room : vec_capacity l.pending ≡ length l.fn.seats.items;
+}
