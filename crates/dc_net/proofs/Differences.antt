@@ -141,7 +141,9 @@ both xs xs' ys ys' p q = ap (λ z. first_difference z ys) p ∙ ap (λ z. first_
 -- the lists agree at a place
 pub goes_on : (xs ys : List ℕ) (i x y : ℕ) → i < length xs → i < length ys → get_or xs i 0 ≡ x → get_or ys i 0 ≡ y → x ≡ y
     → first_difference (drop i xs) (drop i ys) ≡ first_difference (drop (i + 1) xs) (drop (i + 1) ys)
-goes_on xs ys i x y lt below at there is = both (drop i xs) (x ∷ drop (i + 1) xs) (drop i ys) (y ∷ drop (i + 1) ys) (number_at xs i x lt at) (number_at ys i y below there) ∙ rw (eq-eqb x y is) refl
+goes_on xs ys i x y lt below at there is =
+    both (drop i xs) (x ∷ drop (i + 1) xs) (drop i ys) (y ∷ drop (i + 1) ys) (number_at xs i x lt at) (number_at ys i y below there)
+    ∙ rw (eq-eqb x y is) refl
 
 pub finds_lesser : (xs ys : List ℕ) (i x y m : ℕ) → i < length xs → i < length ys → get_or xs i 0 ≡ x → get_or ys i 0 ≡ y → x ≢ y → m ≡ min x y
     → first_difference (drop i xs) (drop i ys) ≡ Some m

@@ -1,5 +1,5 @@
 pub mod EndsWalk
-pub mod KeyTests
+pub mod KeyChecks
 pub mod Flags
 pub mod FirstBy
 pub mod Differences

@@ -2,7 +2,7 @@
 
 /// In what the parts of a net differ: the first difference, by the order of these variants. The two
 /// tests of streams go together, station by station.
-#[derive(Clone, Copy, Debug)]
+#[derive(Clone, Copy, Debug, PartialEq, Eq)]
 pub enum NetFault {
     /// The key file is for another number of stations.
     KeyStations {
@@ -62,7 +62,7 @@ pub enum NetFault {
         /// The first such round.
         round: u16,
     },
-    /// A term names a station that there is not; or, in a word said, the word of a member in the same
+    /// A term names a station that there is not, or, in a word said, a member's word of the same
     /// round.
     ScriptRule {
         /// The first round with such a term.
@@ -71,7 +71,8 @@ pub enum NetFault {
         /// dealt.
         station: u16,
     },
-    /// A command names a station that the key file does not have. The check of a net never gives it.
+    /// A command names a station that the key file does not have. The check of a net never gives
+    /// it.
     NoStation {
         /// The number that was named.
         station: u16,

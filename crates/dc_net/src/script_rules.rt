@@ -1,12 +1,11 @@
 //! Whether the rules of a script name words that are there.
 
 ghost use Rattle.std.specs.Prelude.{◌≡◌, ◌||◌, ◌∷◌, []};
-ghost use Rattle.std.specs.List.{list_any};
 ghost use Rattle.dc_net_rules.specs.Agreement.{first_of, names_no_station, names_member_now, say_by_faulty_rule, dealt_by_faulty_rule, rule_fault};
 ghost use Rattle.dc_spec.specs.Scripts.{each};
 ghost use Rattle.dc_script.specs.Delivered.{delivered};
 ghost use Rattle.dc_net.specs.Stations.{AreFlags};
-ghost use Rattle.dc_net.specs.Tests.{told};
+ghost use Rattle.dc_net.specs.Tests.{as_fault, is_said_by_faulty_rule, is_dealt_by_faulty_rule};
 
 use crate::fault::NetFault;
 use crate::net::Net;
@@ -21,7 +20,7 @@ pub(crate) fn rule_fault(
     turn: &Round,
 ) -> Option<NetFault>
     requires { AreFlags net.now.coalition flags.now }
-    ensures { result ≡ told (rule_fault net.now (round, turn.now)) }
+    ensures { result ≡ as_fault (rule_fault net.now (round, turn.now)) }
 {
     match faulty_word(net, flags, round, turn) {
         Some(station) => Some(NetFault::ScriptRule { round, station }),
@@ -80,9 +79,7 @@ fn faulty_among(net: &Net, dealt: &[Said]) -> Option<u16>
 /// Whether a word said has a faulty term.
 fn is_faulty_say(net: &Net, flags: &[bool; STATIONS], round: u16, said: &Said) -> bool
     requires { AreFlags net.now.coalition flags.now }
-    ensures { result ≡ list_any
-        (λ term. names_no_station net.now term || names_member_now net.now round term)
-        said.now.terms }
+    ensures { result ≡ is_said_by_faulty_rule net.now round said.now }
 {
     let terms = said.terms.as_slice();
     terms
@@ -92,7 +89,7 @@ fn is_faulty_say(net: &Net, flags: &[bool; STATIONS], round: u16, said: &Said) -
 
 /// Whether a word dealt has a faulty term.
 fn is_faulty_dealt(net: &Net, said: &Said) -> bool
-    ensures { result ≡ list_any (names_no_station net.now) said.now.terms }
+    ensures { result ≡ is_dealt_by_faulty_rule net.now said.now }
 {
     let terms = said.terms.as_slice();
     terms.iter().any(|term| is_no_station(net, term))
@@ -102,7 +99,8 @@ fn is_faulty_dealt(net: &Net, said: &Said) -> bool
 /// round.
 fn is_faulty_in_say(net: &Net, flags: &[bool; STATIONS], round: u16, term: &Term) -> bool
     requires { AreFlags net.now.coalition flags.now }
-    ensures { result ≡ (names_no_station net.now term.now || names_member_now net.now round term.now) }
+    ensures { result ≡
+        (names_no_station net.now term.now || names_member_now net.now round term.now) }
 {
     is_no_station(net, term) || (term.round == round && is_member(flags, term.station))
 }

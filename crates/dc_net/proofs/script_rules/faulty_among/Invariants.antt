@@ -1,10 +1,9 @@
 use Rattle.std.proofs.Common.{◌≡◌, drop}
-use Rattle.std.specs.List.{find, list_any}
-use Rattle.dc_spec.specs.Scripts.{Said}
-use Rattle.dc_net_rules.specs.Agreement.{names_no_station}
+use Rattle.std.specs.List.{find}
+use Rattle.dc_net.specs.Tests.{is_dealt_by_faulty_rule}
 use Rattle.dc_net.proofs.script_rules.faulty_among.Given as goal
 
 -- what is left to find is what was to be found
 abbrev pub invariant-loop-said : goal.invariant-loop-said
 invariant-loop-said l =
-    find (λ (said : Said). list_any (names_no_station l.net) said.terms) l.dealt ≡ find (λ (said : Said). list_any (names_no_station l.net) said.terms) (drop l.said-index l.dealt)
+    let is_faulty = is_dealt_by_faulty_rule l.net in find is_faulty l.dealt ≡ find is_faulty (drop l.said-index l.dealt)

@@ -1,10 +1,9 @@
-use Rattle.std.proofs.Common.{◌≡◌, ◌||◌, drop}
-use Rattle.std.specs.List.{find, list_any}
-use Rattle.dc_spec.specs.Scripts.{Said}
-use Rattle.dc_net_rules.specs.Agreement.{names_no_station, names_member_now}
+use Rattle.std.proofs.Common.{◌≡◌, drop}
+use Rattle.std.specs.List.{find}
+use Rattle.dc_net.specs.Tests.{is_said_by_faulty_rule}
 use Rattle.dc_net.proofs.script_rules.faulty_say.Given as goal
 
 -- what is left to find is what was to be found
 abbrev pub invariant-loop-said : goal.invariant-loop-said
 invariant-loop-said l =
-    find (λ (said : Said). list_any (λ term. names_no_station l.net term || names_member_now l.net l.round term) said.terms) l.says ≡ find (λ (said : Said). list_any (λ term. names_no_station l.net term || names_member_now l.net l.round term) said.terms) (drop l.said-index l.says)
+    let is_faulty = is_said_by_faulty_rule l.net l.round in find is_faulty l.says ≡ find is_faulty (drop l.said-index l.says)

@@ -12,14 +12,16 @@ returns-then-i-stations c =
     sym (least_is_first (stations_of c.args.listed.now) c.args.stations.now c.requires.listed c.requires.stations ∙ c.loop-i.invariant.1
     ∙ finds_first (stations_of c.args.listed.now) c.args.stations.now c.loop-i.i c.said.inside.station
     (omega (arith, length-map c.args.listed.now (λ (s : Said). s.station))) (omega arith)
-    (station_at c.args.listed.now c.loop-i.i c.said.inside.station c.index-listed-i.result c.loop-i-test.true c.index-listed-i.is (ap (λ (s : Said). s.station) (sym c.said.view_is))))
+    (station_at c.args.listed.now c.loop-i.i c.said.inside.station c.index-listed-i.result c.loop-i-test.true
+    c.index-listed-i.is (ap (λ (s : Said). s.station) (sym c.said.view_is))))
 
 pub returns-then-station-stations : goal.returns-then-station-stations
 returns-then-station-stations c =
     sym (least_is_first (stations_of c.args.listed.now) c.args.stations.now c.requires.listed c.requires.stations ∙ c.loop-i.invariant.1
     ∙ finds_lesser (stations_of c.args.listed.now) c.args.stations.now c.loop-i.i c.said.inside.station (get_or c.args.stations.now c.loop-i.i 0) c.min.result
     (omega (arith, length-map c.args.listed.now (λ (s : Said). s.station))) (omega arith)
-    (station_at c.args.listed.now c.loop-i.i c.said.inside.station c.index-listed-i.result c.loop-i-test.true c.index-listed-i.is (ap (λ (s : Said). s.station) (sym c.said.view_is)))
+    (station_at c.args.listed.now c.loop-i.i c.said.inside.station c.index-listed-i.result c.loop-i-test.true
+    c.index-listed-i.is (ap (λ (s : Said). s.station) (sym c.said.view_is)))
     refl c.if-station-stations.true c.min.ensures)
 
 pub loop-i-preserved : goal.loop-i-preserved
@@ -28,7 +30,8 @@ loop-i-preserved c = (
   c.loop-i.invariant.1
       ∙ goes_on (stations_of c.args.listed.now) c.args.stations.now c.loop-i.i c.said.inside.station (get_or c.args.stations.now c.loop-i.i 0)
       (omega (arith, length-map c.args.listed.now (λ (s : Said). s.station))) (omega arith)
-      (station_at c.args.listed.now c.loop-i.i c.said.inside.station c.index-listed-i.result c.loop-i-test.true c.index-listed-i.is (ap (λ (s : Said). s.station) (sym c.said.view_is)))
+      (station_at c.args.listed.now c.loop-i.i c.said.inside.station c.index-listed-i.result c.loop-i-test.true
+      c.index-listed-i.is (ap (λ (s : Said). s.station) (sym c.said.view_is)))
       refl c.if-station-stations.false,
 )
 
@@ -37,7 +40,8 @@ returns-then-listed-stations c =
     let end = c.loop-i-test.false in
     sym (least_is_first (stations_of c.args.listed.now) c.args.stations.now c.requires.listed c.requires.stations ∙ c.loop-i.invariant.1
     ∙ finds_second (stations_of c.args.listed.now) c.args.stations.now c.loop-i.i (get_or c.args.stations.now (length c.args.listed.now) 0)
-    (omega (arith, length-map c.args.listed.now (λ (s : Said). s.station))) (omega arith) (let at : c.loop-i.i ≡ length c.args.listed.now = omega arith in ap (λ k. get_or c.args.stations.now k 0) at))
+    (omega (arith, length-map c.args.listed.now (λ (s : Said). s.station))) (omega arith)
+    (let at : c.loop-i.i ≡ length c.args.listed.now = omega arith in ap (λ k. get_or c.args.stations.now k 0) at))
 
 pub returns : goal.returns
 returns c =
