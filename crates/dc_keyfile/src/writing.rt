@@ -48,7 +48,8 @@ fn put_head(
     words: u16,
     count: u32,
 ) -> Result<(), NoMemory>
-    ensures { OnOk result (bytes.new.items ≡ bytes.old.items ++ head_bytes version stations words count) }
+    ensures { OnOk result (bytes.new.items ≡
+        bytes.old.items ++ head_bytes version stations words count) }
 {
     bytes.extend_from_slice(b"DCK")?;
     bytes.push(version)?;

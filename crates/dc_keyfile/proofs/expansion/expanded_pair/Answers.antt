@@ -39,7 +39,8 @@ made c =
     λ i. record { u = u i; v = v i; a = first i; b = second i }
 
 pub invariant_of-result : goal.invariant_of-result
-invariant_of-result c = subst IsPairKey (sym (made c)) (IsPairKey-generated_pair c.args.pair.now.seed c.args.words (c.args.pair.now.u, c.args.pair.now.v) c.requires.some_words c.requires.most_words)
+invariant_of-result c = subst IsPairKey (sym (made c)) (IsPairKey-generated_pair c.args.pair.now.seed c.args.words
+    (c.args.pair.now.u, c.args.pair.now.v) c.requires.some_words c.requires.most_words)
 
 pub returns : goal.returns
 returns c = made c
