@@ -43,7 +43,8 @@ after_head read (Ok head) = read head
 -- the twelve bytes of a head of this version
 abbrev pub head_bytes : ℕ → ℕ → ℕ → ℕ → List ℕ
 head_bytes version stations words count =
-    codes "DCK" ++ version ∷ [] ++ to_be_bytes w16 stations ++ to_be_bytes w16 words ++ to_be_bytes w32 count
+    codes "DCK" ++ version ∷ []
+    ++ to_be_bytes w16 stations ++ to_be_bytes w16 words ++ to_be_bytes w32 count
 
 -- ---- pairs of so many bytes each
 

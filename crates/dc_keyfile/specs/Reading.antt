@@ -58,7 +58,8 @@ pair_of bytes stations words p =
 -- the pairs with the numbers of the head
 abbrev pub with_pairs : Head → Result (List Pair) KeyFault → Result Keys KeyFault
 with_pairs head (Err fault) = Err fault
-with_pairs head (Ok pairs) = Ok (record { stations = head.stations; words = head.words; pairs = pairs })
+with_pairs head (Ok pairs) =
+    Ok (record { stations = head.stations; words = head.words; pairs = pairs })
 
 -- what comes after the head of version 1
 unfoldable pub keys_after_head : List ℕ → Head → Result Keys KeyFault

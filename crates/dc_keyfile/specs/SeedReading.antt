@@ -17,7 +17,8 @@ seed_pair_of bytes stations p =
 -- the pairs with the numbers of the head
 abbrev pub with_seeds : Head → Result (List SeedPair) KeyFault → Result Seeds KeyFault
 with_seeds head (Err fault) = Err fault
-with_seeds head (Ok pairs) = Ok (record { stations = head.stations; words = head.words; pairs = pairs })
+with_seeds head (Ok pairs) =
+    Ok (record { stations = head.stations; words = head.words; pairs = pairs })
 
 -- what comes after the head
 unfoldable pub seeds_after_head : List ℕ → Head → Result Seeds KeyFault

@@ -87,7 +87,8 @@ fn sixteen_symbols(stream: &mut ChaCha20Rng) -> [u32; 16]
     requires first_stream { stream.old.stream ≡ 0 }
     requires room { stream.old.word_pos + 32 < 2 ^ 64 }
     ensures { result ≡
-        map (λ n. generated_symbol stream.old.key (stream.old.word_pos + 2 * n)) (range_with_len 0 16) }
+        map (λ n. generated_symbol stream.old.key (stream.old.word_pos + 2 * n))
+        (range_with_len 0 16) }
 {
     let mut symbols = [0; 16];
     for n in 0..16 {
