@@ -35,6 +35,11 @@ pub record IsMask (m : MaskState) : Type 0 where
 abbrev pub running_sum : StationPads → List (List ℕ) → ℕ → ℕ → ℕ
 running_sum pads history t n = slice_index pads.first n + sum_by (λ k. slice_index pads.second (n - k) * slice_index (symbols history) k) (range_with_len 0 (16 * t))
 
+-- the sum of the products of factors with as many pads, which begin at pad i
+abbrev pub products_from : List ℕ → List ℕ → ℕ → ℕ
+products_from pads factors i =
+    sum_by (λ k. slice_index pads (i + k) * slice_index factors k) (range_with_len 0 (length factors))
+
 -- the mask has these pads and has taken these words, in this order
 pub record StandsFor (m : MaskState) (pads : StationPads) (history : List (List ℕ)) : Type 0 where
   pub words : AreWords history

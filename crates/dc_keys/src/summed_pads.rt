@@ -3,7 +3,7 @@
 ghost use Rattle.std.specs.Prelude.{◌≡◌, ◌+◌, ◌-◌, ◌*◌, ◌%◌, ◌≤◌, ◌<◌, ℕ, length, slice_index, if◌then◌else◌, IfOk, All};
 ghost use Rattle.dc_spec.specs.Words.{IsSymbol};
 ghost use Rattle.dc_keys.specs.Pads.{IsPadded};
-ghost use Rattle.dc_keys.specs.StationPads.{pad_words, signed_pad, station_pads, KeysOfSummedPads};
+ghost use Rattle.dc_keys.specs.StationPads.{pad_words, signed_pad, station_pads, KeysOfSummedPads, KeysOfSums, KeySumsSplit};
 
 use crate::adding::{add_pads, subtract_pads};
 use crate::key_file::KeyFile;
@@ -93,4 +93,11 @@ fn add_signed(sums: &mut [u32], pads: &[u32], adds: bool, subtracts: bool)
 /// The law of summed pads: they give the signed sum of the pairs' keys.
 pub fn summed_pads_law()
     ensures { KeysOfSummedPads }
+{}
+
+/// The law of sums: each symbol of a station's key is a first pad plus a sum over the history, and
+/// the sum over a history is that over its front plus that over its rest.
+pub fn key_sums_split()
+    ensures keys { KeysOfSums }
+    ensures split { KeySumsSplit }
 {}
