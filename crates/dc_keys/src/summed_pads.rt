@@ -1,6 +1,7 @@
 //! The pads of one station, summed over its pairs.
 
 ghost use Rattle.std.specs.Prelude.{◌≡◌, ◌+◌, ◌-◌, ◌*◌, ◌%◌, ◌≤◌, ◌<◌, ℕ, length, slice_index, if◌then◌else◌, IfOk, All};
+ghost use Rattle.dc_spec.specs.Limits.{most_words};
 ghost use Rattle.dc_spec.specs.Words.{IsSymbol};
 ghost use Rattle.dc_keys.specs.Pads.{IsPadded};
 ghost use Rattle.dc_keys.specs.StationPads.{pad_words, signed_pad, station_pads, KeysOfSummedPads, KeysOfSums, KeySumsSplit};
@@ -52,7 +53,7 @@ impl SummedPads {
     pub fn words(&self) -> u16
         ensures value { result ≡ pad_words self.now }
         ensures some { 1 ≤ result }
-        ensures most { result ≤ 4096 }
+        ensures most { result ≤ most_words }
     {
         (self.first.as_slice().len() / 16) as u16
     }
