@@ -52,6 +52,14 @@ impl Coalition {
         is_in(self.members.as_slice(), i)
     }
 
+    /// The members, in rising order.
+    pub fn members(&self) -> &[u16]
+        ensures value { result.now ≡ self.now }
+        ensures members { AreMembers self.now }
+    {
+        self.members.as_slice()
+    }
+
     /// The number of members, at most 256.
     pub fn len(&self) -> u16
         ensures { result ≡ length self.now }

@@ -70,6 +70,13 @@ impl Graph {
         self.edges[i as usize]
     }
 
+    /// The edges, in rising order.
+    pub fn edges(&self) -> &[(u16, u16)]
+        ensures { result.now ≡ self.now.edges }
+    {
+        self.edges.as_slice()
+    }
+
     /// Whether an edge joins two stations, whichever of them is named first.
     pub fn has(&self, u: u16, v: u16) -> bool
         ensures { result ≡ has_edge self.now.edges u v }

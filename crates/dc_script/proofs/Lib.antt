@@ -1,12 +1,4 @@
-mod Putting
 mod Members
 mod QuietTurns
-mod ItemTexts
-mod LastTurn
-mod Entries
-mod Growing
-mod ReadSoFar
-mod Rereading
-mod LinesAndTurns
-mod SameReading
-mod Rows
+mod RuleWords
+mod OneMoreRound

@@ -1,7 +1,3 @@
 pub mod Delivered
-pub mod Items
-pub mod Lines
 pub mod Quiet
-pub mod Reading
-pub mod TurnReading
-pub mod Turns
+pub mod Rules

@@ -27,7 +27,7 @@ impl Delivery {
         match self {
             Delivery::Sum => Ok(Delivery::Sum),
             Delivery::Each { words } => {
-                let words = words.copy(alloc)?;
+                let words = words.copy_each(alloc)?;
                 Ok(Delivery::Each { words })
             }
         }

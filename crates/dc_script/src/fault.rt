@@ -14,7 +14,7 @@ pub struct ScriptFault {
 pub enum ScriptKind {
     /// A character that no line may hold, or no line feed at the end.
     NotText,
-    /// The first line is not `dcscript 1`.
+    /// The first line is neither `dcscript 1` nor `dcscript 2`.
     Header,
     /// A later line is none of a script's lines.
     Form,
@@ -27,7 +27,8 @@ pub enum ScriptKind {
     },
     /// The 4097th round.
     TooMany,
-    /// A line before the first round, or after the round's delivery.
+    /// A line before the first round, or after the round's delivery, or a term that follows no word
+    /// and no term.
     Misplaced,
     /// A station is not greater than that of the line before of its kind in this round.
     Order {
@@ -37,4 +38,15 @@ pub enum ScriptKind {
     /// A round has no delivery. It is reported at the next round's line, or at the line past the
     /// last.
     Missing,
+    /// A term that names a later round.
+    Late {
+        /// The round that it names.
+        told: u16,
+        /// The round of the term.
+        round: u16,
+    },
+    /// A term that is not greater than the one right before it.
+    Unordered,
+    /// The 524289th term.
+    Terms,
 }

@@ -3,20 +3,18 @@
 
 mod delivery;
 mod fault;
-mod item;
 mod quiet_script;
-mod reading;
 mod round;
+mod rule;
 mod said;
 mod script;
-mod turns;
-mod writing;
+mod term;
 
 pub use delivery::Delivery;
 pub use fault::{ScriptFault, ScriptKind};
 pub use quiet_script::quiet;
-pub use reading::read_script;
 pub use round::{Round, Rounds};
+pub use rule::{rule_word, rule_word_over};
 pub use said::{Dealt, Said};
 pub use script::Script;
-pub use writing::script_text;
+pub use term::{Term, Terms};

@@ -12,6 +12,7 @@ use crate::delivery::Delivery;
 use crate::round::{Round, Rounds};
 use crate::said::{Dealt, Said};
 use crate::script::Script;
+use crate::term::Terms;
 use dc_field::{NoMemory, Word};
 use dc_graph::Coalition;
 use std::alloc::Global;
@@ -27,6 +28,7 @@ pub fn quiet(alloc: Global, c: &Coalition, n: u16, words: u16) -> Result<Script,
     note_members(c);
     let rounds = quiet_rounds(alloc, c, n, words)?;
     Ok(Script {
+        version: 1,
         rounds: Rounds::from_vec(rounds),
     })
 }
@@ -34,7 +36,7 @@ pub fn quiet(alloc: Global, c: &Coalition, n: u16, words: u16) -> Result<Script,
 /// The given number of quiet rounds.
 fn quiet_rounds(alloc: Global, c: &Coalition, n: u16, words: u16) -> Result<Vec<Round>, NoMemory>
     requires { All (λ m. m < n) c.now }
-    ensures { IfOk result (λ rounds. rounds.items ≡ quiet_script c.now words) }
+    ensures { IfOk result (λ rounds. rounds.items ≡ replicate words (quiet_turn c.now)) }
 {
     let mut rounds = Vec::with_capacity(alloc, usize::from(words))?;
     for _t in 0..words {
@@ -67,6 +69,7 @@ fn zero_words(alloc: Global, c: &Coalition, n: u16) -> Result<Vec<Said>, NoMemor
             says.push(Said {
                 station,
                 word: Word::zero(),
+                terms: Terms::from_vec(Vec::new(alloc)),
             })?;
         }
     }

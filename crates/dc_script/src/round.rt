@@ -33,7 +33,7 @@ impl Model for Round {
 /// A copy of the round.
 impl TryClone for Round {
     fn try_clone(&self, alloc: Global) -> Result<Round, NoMemory> {
-        let says = self.says.copy(alloc)?;
+        let says = self.says.copy_each(alloc)?;
         let delivery = self.delivery.copy(alloc)?;
         Ok(Round { says, delivery })
     }

@@ -1,0 +1,1 @@
+//! Whether a key file is for the edges of a graph.
