@@ -9,3 +9,4 @@ mod WordBytes
 pub mod NumberText
 pub mod WordText
 pub mod HexDigits
+pub mod SymbolText

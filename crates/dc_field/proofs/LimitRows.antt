@@ -1,7 +1,7 @@
 -- Each limit with its number, as the specification and as the code writes it, by computation.
 use Rattle.std.proofs.Common.{◌≡◌, refl}
-use Rattle.dc_spec.specs.Limits.{most_stations, most_words, most_pads, most_message, most_shorts, most_longs, most_coins, transcript_limit, manifest_limit, key_file_limit, stream_limit, script_limit, permutation_limit, wanted_words_limit}
-use Rattle.dc_field.specs.declared.limits.TheConstants.{MOST_STATIONS, MOST_WORDS, MOST_PADS, MOST_MESSAGE, MOST_SHORTS, MOST_LONGS, MOST_COINS, TRANSCRIPT_LIMIT, MANIFEST_LIMIT, KEY_FILE_LIMIT, STREAM_LIMIT, SCRIPT_LIMIT, PERMUTATION_LIMIT, WANTED_WORDS_LIMIT}
+use Rattle.dc_spec.specs.Limits.{most_stations, most_words, most_pads, most_message, most_shorts, most_longs, most_coins, most_terms, transcript_limit, manifest_limit, key_file_limit, stream_limit, script_limit, permutation_limit, wanted_words_limit}
+use Rattle.dc_field.specs.declared.limits.TheConstants.{MOST_STATIONS, MOST_WORDS, MOST_PADS, MOST_MESSAGE, MOST_SHORTS, MOST_LONGS, MOST_COINS, MOST_TERMS, TRANSCRIPT_LIMIT, MANIFEST_LIMIT, KEY_FILE_LIMIT, STREAM_LIMIT, SCRIPT_LIMIT, PERMUTATION_LIMIT, WANTED_WORDS_LIMIT}
 
 most_stations-number : most_stations ≡ 256
 most_stations-number = refl
@@ -44,6 +44,12 @@ most_coins-number = refl
 
 MOST_COINS-number : MOST_COINS ≡ 4096
 MOST_COINS-number = refl
+
+most_terms-number : most_terms ≡ 524288
+most_terms-number = refl
+
+MOST_TERMS-number : MOST_TERMS ≡ 524288
+MOST_TERMS-number = refl
 
 transcript_limit-number : transcript_limit ≡ 134217728
 transcript_limit-number = refl

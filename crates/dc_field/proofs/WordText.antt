@@ -41,7 +41,7 @@ none_there text most all small =
     sym (none_where_fails (λ c. is_none (digit_in c)) text 0 each)
 
 -- where no character is found that is no digit, each is one
-each_counts : (text : List ℕ) → position (λ c. is_none (digit_in c)) text ≡ None → (k : ℕ) → k < length text → digit_in (get_or text k 0) ≡ Some (count_of (get_or text k 0))
+pub each_counts : (text : List ℕ) → position (λ c. is_none (digit_in c)) text ≡ None → (k : ℕ) → k < length text → digit_in (get_or text k 0) ≡ Some (count_of (get_or text k 0))
 each_counts text none k lt = counted (digit_in (get_or text k 0)) (fails_where_none (λ c. is_none (digit_in c)) text k 0 none lt)
 
 -- ---- from digits to symbols and back
@@ -78,7 +78,7 @@ count_there text at lt are =
     rw same (hex_digit-digit_in (get_or text at 0) (count_of (get_or text at 0)) (are at lt))
 
 -- five digits are those of the symbol that they spell
-five_digits : (text : List ℕ) (at : ℕ) → at + 5 ≤ length text → AreDigits text → symbol_text (symbol_at (map count_of text) at) ≡ take 5 (drop at text)
+pub five_digits : (text : List ℕ) (at : ℕ) → at + 5 ≤ length text → AreDigits text → symbol_text (symbol_at (map count_of text) at) ≡ take 5 (drop at text)
 five_digits text at room are =
     let first = count_there text at (omega arith) are in
     let second = count_there text (at + 1) (omega arith) are in
@@ -157,7 +157,7 @@ hex_digits : (ds : List ℕ) → AllByRecursion (λ d. d < 16) ds → All (λ c.
 hex_digits ds below = All-map (λ c. is_none (digit_in c) ≡ false) hex_digit ds (All-weaker (λ d. d < 16) (λ d. is_none (digit_in (hex_digit d)) ≡ false) hex_there ds (All-from_recursion (λ d. d < 16) ds below))
 
 -- each character of a symbol's text is a digit
-symbol_digits : (x : ℕ) → All (λ c. is_none (digit_in c) ≡ false) (symbol_text x)
+pub symbol_digits : (x : ℕ) → All (λ c. is_none (digit_in c) ≡ false) (symbol_text x)
 symbol_digits x = hex_digits (x / 65536 % 16 ∷ x / 4096 % 16 ∷ x / 256 % 16 ∷ x / 16 % 16 ∷ x % 16 ∷ []) (omega arith, (omega arith, (omega arith, (omega arith, (omega arith, tt)))))
 
 -- and of a word's
@@ -166,7 +166,7 @@ word_digits [] = All-nil (λ c. is_none (digit_in c) ≡ false)
 word_digits (x ∷ w) = All-append (λ c. is_none (digit_in c) ≡ false) (symbol_text x) (word_text w) (symbol_digits x) (word_digits w)
 
 -- what the digit of a count counts
-count_of-hex_digit : (d : ℕ) → d < 16 → count_of (hex_digit d) ≡ d
+pub count_of-hex_digit : (d : ℕ) → d < 16 → count_of (hex_digit d) ≡ d
 count_of-hex_digit d lt = rw (digit_in-hex_digit d lt) refl
 
 -- character j of symbol l

@@ -4,3 +4,4 @@ pub mod NumberInText
 pub mod Answers
 pub mod GroupAnswers
 pub mod IsGroup
+pub mod SymbolInText

@@ -1,7 +1,7 @@
 //! The limits of a session and of its files, each written once for all code.
 
 ghost use Rattle.std.specs.Prelude.{◌≡◌};
-ghost use Rattle.dc_spec.specs.Limits.{most_stations, most_words, most_pads, most_message, most_shorts, most_longs, most_coins, transcript_limit, manifest_limit, key_file_limit, stream_limit, script_limit, permutation_limit, wanted_words_limit};
+ghost use Rattle.dc_spec.specs.Limits.{most_stations, most_words, most_pads, most_message, most_shorts, most_longs, most_coins, most_terms, transcript_limit, manifest_limit, key_file_limit, stream_limit, script_limit, permutation_limit, wanted_words_limit};
 
 /// How many stations a net has at most.
 pub const MOST_STATIONS: u16 = 256;
@@ -23,6 +23,9 @@ pub const MOST_LONGS: usize = 256;
 
 /// How many coins a stream has at most.
 pub const MOST_COINS: usize = 4096;
+
+/// How many terms the rules of a script have at most, all words together.
+pub const MOST_TERMS: usize = 524288;
 
 /// How many bytes of a transcript are read at most.
 pub const TRANSCRIPT_LIMIT: u64 = 134217728;
@@ -54,6 +57,7 @@ pub fn limits_are_those_of_specifications()
     ensures shorts { MOST_SHORTS ≡ most_shorts }
     ensures longs { MOST_LONGS ≡ most_longs }
     ensures coins { MOST_COINS ≡ most_coins }
+    ensures terms { MOST_TERMS ≡ most_terms }
     ensures transcript { TRANSCRIPT_LIMIT ≡ transcript_limit }
     ensures manifest { MANIFEST_LIMIT ≡ manifest_limit }
     ensures key_file { KEY_FILE_LIMIT ≡ key_file_limit }

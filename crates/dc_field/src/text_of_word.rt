@@ -3,6 +3,7 @@
 ghost use Rattle.std.specs.Prelude.{◌≡◌, ◌+◌, ◌<◌, ◌≤◌, ◌++◌, take, drop};
 ghost use Rattle.dc_spec.specs.Text.{word_text as text_of, symbol_text, hex_digit as digit_char};
 
+use crate::sym::Sym;
 use crate::word::Word;
 
 /// The eighty digits of a word: five lower-case hexadecimal digits a symbol.
@@ -14,6 +15,13 @@ pub fn word_text(w: &Word) -> [u8; 80]
         put_symbol(&mut text, 5 * l, *x);
     }
     text
+}
+
+/// The five lower-case hexadecimal digits of a symbol.
+pub fn symbol_text(x: Sym) -> [u8; 5]
+    ensures { result ≡ symbol_text x }
+{
+    symbol_digits(x.number())
 }
 
 /// Puts the five digits of a symbol at a place.

@@ -76,7 +76,7 @@ fn digits_of(b: &[u8]) -> [u8; 80]
 }
 
 /// A lower-case hexadecimal digit as a number, and 16 for any other character.
-fn count_of(c: u8) -> u8
+pub(crate) fn count_of(c: u8) -> u8
     ensures { result ≡ count_of c }
 {
     match c {

@@ -72,7 +72,8 @@ impl Graph {
 
     /// The edges, in rising order.
     pub fn edges(&self) -> &[(u16, u16)]
-        ensures { result.now ≡ self.now.edges }
+        ensures value { result.now ≡ self.now.edges }
+        ensures graph { IsGraph self.now }
     {
         self.edges.as_slice()
     }

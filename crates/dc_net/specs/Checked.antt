@@ -1,5 +1,5 @@
 -- Nets whose parts agree, and the answer of the check.
-use Rattle.std.specs.Prelude.{ℕ, ◌<◌, ◌≡◌, length, All, Option, Some, Result, Ok, Err}
+use Rattle.std.specs.Prelude.{◌<◌, ◌≡◌, length, All, Some, Result, Ok, Err}
 use Rattle.dc_spec.specs.Net.{Net}
 use Rattle.dc_net_rules.specs.Agreement.{Disagreement, disagreement, Agrees}
 use Rattle.dc_net.specs.declared.fault.NetFault.{NetFault}

@@ -1,6 +1,4 @@
 -- The fault that stands for a disagreement of the parts of a net.
-use Rattle.std.specs.Prelude.{Option, option_map}
-use Rattle.dc_spec.specs.Net.{Net}
 use Rattle.dc_net_rules.specs.Agreement.{Disagreement, key_stations, key_words, key_missing, key_stray, stream_missing, stream_stray, script_rounds, script_station, script_delivery, script_rule}
 use Rattle.dc_net.specs.declared.fault.NetFault.{NetFault}
 use Rattle.dc_net.specs.declared.fault.NetFault.TheVariants.{KeyStations, KeyWords, KeyMissing, KeyStray, StreamMissing, StreamStray, ScriptRounds, ScriptStation, ScriptDelivery, ScriptRule}

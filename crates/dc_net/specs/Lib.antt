@@ -1,3 +1,5 @@
 pub mod Faults
 pub mod Checked
 pub mod Walks
+pub mod Stations
+pub mod Tests

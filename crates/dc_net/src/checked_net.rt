@@ -1,9 +1,16 @@
 //! A net whose parts agree.
 
-ghost use Rattle.std.specs.Prelude.{◌≡◌};
-ghost use Rattle.dc_net.specs.Checked.{IsChecked};
+ghost use Rattle.std.specs.Prelude.{◌≡◌, ◌<◌, length, All};
+ghost use Rattle.dc_net_rules.specs.Agreement.{disagreement};
+ghost use Rattle.dc_net.specs.Checked.{IsChecked, Checks};
+ghost use Rattle.dc_net.specs.Tests.{told};
 
+use crate::fault::NetFault;
+use crate::key_checks::keys_fault;
 use crate::net::Net;
+use crate::script_checks::script_fault;
+use crate::stations::{honest_of, member_flags};
+use crate::stream_checks::streams_fault;
 use std::marker::Model;
 
 /// A net whose parts agree: the keys are for its edges, each honest station has a stream, and the
@@ -31,5 +38,40 @@ impl CheckedNet {
         ensures checked { IsChecked self.now }
     {
         &self.net
+    }
+}
+
+impl Net {
+    /// The net as a checked one, or the fault of the first test that fails, by the order of the
+    /// faults. The condition is that the streams have a place for each station and that the members
+    /// of the coalition are stations.
+    pub fn check(self) -> Result<CheckedNet, NetFault>
+        requires streams { length self.streams ≡ self.stations }
+        requires members { All (λ m. m < self.stations) self.coalition }
+        ensures { Checks self result }
+    {
+        match net_fault(&self) {
+            Some(fault) => Err(fault),
+            None => Ok(CheckedNet { net: self }),
+        }
+    }
+}
+
+/// The fault of the first test that fails.
+fn net_fault(net: &Net) -> Option<NetFault>
+    requires streams { length net.now.streams ≡ net.now.stations }
+    requires members { All (λ m. m < net.now.stations) net.now.coalition }
+    ensures { result ≡ told (disagreement net.now) }
+{
+    if let Some(fault) = keys_fault(net) {
+        return Some(fault);
+    }
+    let flags = member_flags(net.coalition.members());
+    match streams_fault(net, &flags) {
+        Some(fault) => Some(fault),
+        None => {
+            let honest = honest_of(net.graph.stations(), &flags);
+            script_fault(net, &flags, honest.as_slice())
+        }
     }
 }

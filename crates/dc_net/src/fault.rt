@@ -2,7 +2,7 @@
 
 /// In what the parts of a net differ: the first difference, by the order of these variants. The two
 /// tests of streams go together, station by station.
-#[derive(Clone, Copy, Debug)]
+#[derive(Clone, Copy, Debug, PartialEq, Eq)]
 pub enum NetFault {
     /// The key file is for another number of stations.
     KeyStations {

@@ -1,3 +1,4 @@
+mod Putting
 mod Members
 mod QuietTurns
 mod RuleWords

@@ -9,6 +9,7 @@ mod rule;
 mod said;
 mod script;
 mod term;
+mod writing;
 
 pub use delivery::Delivery;
 pub use fault::{ScriptFault, ScriptKind};
@@ -18,3 +19,4 @@ pub use rule::{rule_word, rule_word_over};
 pub use said::{Dealt, Said};
 pub use script::Script;
 pub use term::{Term, Terms};
+pub use writing::script_text;

@@ -1,4 +1,4 @@
-use Rattle.std.proofs.Common.{◌≡◌, ℕ, ◌+◌, ◌<◌, ◌≤◌, length, map, get_or, ◌∙◌, sym, rules, arith}
+use Rattle.std.proofs.Common.{map, ◌∙◌, sym, rules, arith}
 use Rattle.std.proofs.lemmas.List.{length-map}
 use Rattle.dc_net.proofs.EndsWalk.{ends_at, found_last, found_before, passes_other, passes_item}
 use Rattle.dc_net.proofs.ends.first_absent.Goals as goal

@@ -1,1 +1,0 @@
-//! Whether a key file is for the edges of a graph.

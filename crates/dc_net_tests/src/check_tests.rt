@@ -1,0 +1,165 @@
+use crate::answers::done;
+use dc_graph::{Coalition, Graph};
+use dc_keyfile::generate;
+use dc_keys::KeyFile;
+use dc_net::{Net, NetFault, Streams};
+use dc_script::Script;
+use dc_stream::Stream;
+use std::process::Abort;
+use std::test::*;
+
+/// What a net is made of, with a script without rounds. The keys are generated for a key graph of
+/// their own; a station has an empty stream or none.
+#[derive(Clone, Copy)]
+struct Parts<'a> {
+    stations: u16,
+    edges: &'a [(u16, u16)],
+    members: &'a [u16],
+    key_stations: u16,
+    key_edges: &'a [(u16, u16)],
+    key_words: u16,
+    streams: &'a [bool],
+    words: u16,
+}
+
+/// Three stations in a row, the last of which is the coalition.
+fn agreed() -> Parts<'static> {
+    Parts {
+        stations: 3,
+        edges: &[(0, 1), (1, 2)],
+        members: &[2],
+        key_stations: 3,
+        key_edges: &[(0, 1), (1, 2)],
+        key_words: 2,
+        streams: &[true, true, false],
+        words: 2,
+    }
+}
+
+/// The keys that zeros give these edges.
+fn keys<R: AllocGlobal + Abort>(rt: &R, parts: &Parts) -> KeyFile {
+    let graph = done(
+        rt,
+        Graph::new(rt.alloc(), parts.key_stations, parts.key_edges),
+    );
+    let words = parts.key_words;
+    if words == 0 || 4096 < words || 100 < graph.edge_count() {
+        panic!(rt; "some words and few edges");
+    }
+    done(rt, generate(rt.alloc(), &[0; 32], &graph, words))
+}
+
+/// An empty stream for each station that has one.
+fn streams<R: AllocGlobal + Abort>(rt: &R, there: &[bool]) -> Streams {
+    let mut streams = Vec::new(rt.alloc());
+    for is_there in there {
+        let stream = if *is_there {
+            Some(Stream::empty(rt.alloc()))
+        } else {
+            None
+        };
+        done(rt, streams.push(stream));
+    }
+    Streams::from_vec(streams)
+}
+
+/// The fault of the net of these parts; None where they agree, and then the net is as it was.
+fn fault_of<R: AllocGlobal + Abort>(rt: &R, parts: &Parts) -> Option<NetFault> {
+    let graph = done(rt, Graph::new(rt.alloc(), parts.stations, parts.edges));
+    let coalition = done(rt, Coalition::new(rt.alloc(), &graph, parts.members));
+    let net = Net {
+        graph,
+        coalition,
+        keys: keys(rt, parts),
+        streams: streams(rt, parts.streams),
+        script: Script::empty(rt.alloc(), 1),
+        words: parts.words,
+    };
+    checked(rt, net)
+}
+
+fn checked<R: Abort>(rt: &R, net: Net) -> Option<NetFault> {
+    let stations = net.graph.stations();
+    let members = net.coalition.members();
+    if net.streams.as_slice().len() != usize::from(stations)
+        || members.iter().any(|m| stations <= *m)
+    {
+        panic!(rt; "a place for each station, and members that are stations");
+    }
+    let words = net.words;
+    match net.check() {
+        Ok(checked) => {
+            assert_eq!(rt; checked.net().words, words);
+            None
+        }
+        Err(fault) => Some(fault),
+    }
+}
+
+fn refused<R: AllocGlobal + Abort>(rt: &R, parts: Parts, due: NetFault) {
+    assert_eq!(rt; fault_of(rt, &parts), Some(due));
+}
+
+#[test]
+fn faults_of_keys(rt: HostRuntime) {
+    let due = NetFault::KeyStations { told: 4, net: 3 };
+    refused(
+        &rt,
+        Parts {
+            key_stations: 4,
+            key_words: 3,
+            ..agreed()
+        },
+        due,
+    );
+    let due = NetFault::KeyWords { told: 3, net: 2 };
+    refused(
+        &rt,
+        Parts {
+            key_words: 3,
+            key_edges: &[],
+            ..agreed()
+        },
+        due,
+    );
+    let due = NetFault::KeyMissing { u: 1, v: 2 };
+    refused(
+        &rt,
+        Parts {
+            key_edges: &[(0, 1), (0, 2)],
+            ..agreed()
+        },
+        due,
+    );
+    let due = NetFault::KeyStray { u: 0, v: 2 };
+    refused(
+        &rt,
+        Parts {
+            key_edges: &[(0, 1), (0, 2), (1, 2)],
+            ..agreed()
+        },
+        due,
+    );
+}
+
+#[test]
+fn faults_of_streams(rt: HostRuntime) {
+    let due = NetFault::StreamMissing { station: 1 };
+    refused(
+        &rt,
+        Parts {
+            streams: &[true, false, true],
+            ..agreed()
+        },
+        due,
+    );
+    let due = NetFault::StreamStray { station: 2 };
+    refused(
+        &rt,
+        Parts {
+            streams: &[true, true, true],
+            ..agreed()
+        },
+        due,
+    );
+}

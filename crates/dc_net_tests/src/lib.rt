@@ -1,0 +1,7 @@
+//! Tests of whole nets.
+#![tactic(auto)]
+
+#[cfg(test)]
+mod answers;
+#[cfg(test)]
+mod check_tests;
