@@ -1,23 +1,32 @@
 -- The promises of a call follow from what it did by its outcome.
-use Rattle.std.proofs.Common.{◌++◌, ◌≡◌, ◌≤◌, ◌⊎◌, ℕ, Bool, true, false, List, [], ◌∷◌, length, Option, None, Some, Result, Ok, Err, inl, inr, refl, sym, ap, ◌∙◌, subst, arith}
+use Rattle.std.proofs.Common.{◌≡◌, ◌≤◌, ◌⊎◌, ℕ, Bool, true, false, List, [], ◌∷◌, length, Result, Ok, Err, inl, inr, refl, sym, ap, ◌∙◌, subst, arith}
 use Rattle.std.specs.Prelude.{IsTrue}
-use Rattle.std.proofs.lemmas.List.{append-nil}
-use Rattle.dc_spec.specs.Outside.{ShelfState, SinkState, Holding, absent, held, Rose, Tells, grown, IsFront}
-use Rattle.dc_spec.specs.Limits.{transcript_limit}
+use Rattle.dc_spec.specs.Outside.{ShelfState, SinkState, absent, held, Rose, grown}
+use Rattle.dc_spec.specs.Limits.{transcript_limit, manifest_limit}
 use Rattle.dc_spec.specs.Recorded.{Recorded, IsRecorded, transcript_bytes, superposed}
 use Rattle.dc_spec.specs.Text.{words_text}
+use Rattle.dc_formats.specs.KeyFile.{keys_bytes}
 use Rattle.dc_formats.proofs.Sizes.{transcript_size}
-use Rattle.dc_edge.specs.Shelf.{IsHeldAbove, FailsUntold}
+use Rattle.dc_edge.specs.Shelf.{IsHeldAbove, FailsUntold, rewritten}
+use Rattle.dc_keyfile.specs.Generator.{generated_keys}
+use Rattle.dc_manifest.specs.Content.{Content}
+use Rattle.dc_manifest.specs.Reading.{manifest_of}
+use Rattle.dc_manifest.specs.declared.fault.ManifestFault.{ManifestFault}
 use Rattle.dc_superpose.specs.Reading.{transcript_of}
 use Rattle.dc_superpose.specs.declared.fault.TranscriptFault.{TranscriptFault}
 use Rattle.dc_cli.specs.Forms.{is_name, is_form, longest_begun}
-use Rattle.dc_cli.specs.Commands.{Task, sum, Spells}
+use Rattle.dc_cli.specs.Commands.{Task, sum, keygen, Spells}
 use Rattle.dc_cli.specs.Summing.{SummedFile, SumRan, Refused}
-use Rattle.dc_cli.specs.Ran.{Ran, RanCommand, CommandRan}
-use Rattle.dc_cli.specs.Promises.{Call, AsksFor, RefusesOtherWords, Leaves, KeepsFiles, AsksInOrder, PrintsOnlyWhenDone, PrintsSums, HasLimit, TellsName, TellsTheLast, MissesTheAbsent, RefusesTheLong, TellsTheFault, RefusesTheMalformed, HasCauses, Completes}
+use Rattle.dc_cli.specs.Making.{Making, MakesOf}
+use Rattle.dc_cli.specs.Keygen.{keys_for, keygen_making}
+use Rattle.dc_cli.specs.Ran.{Ran, CommandRan}
+use Rattle.dc_cli.specs.Promises.{Call, AsksFor, RefusesOtherWords, Leaves, KeepsFiles, AsksInOrder, PrintsOnlyWhenDone, PrintsSums, HasLimit, TellsName, TellsTheLast, MissesTheAbsent, RefusesTheLong, TellsTheFault, RefusesTheMalformed, HasCauses, Completes, MakesFile, RunsKeygen, WritesKeys}
+use Rattle.dc_cli.specs.declared.outcome.FileFault.{FileFault}
+use Rattle.dc_cli.specs.declared.outcome.FileFault.TheVariants.{Transcript, Keys, Manifest}
 use Rattle.dc_cli.specs.declared.outcome.Outcome.{Outcome}
 use Rattle.dc_cli.specs.declared.outcome.Outcome.TheVariants.{Done, Usage, Missing, TooLong, Malformed, ShelfFault, SinkFault, NoMemory}
-use Rattle.dc_cli.specs.declared.outcome.FileFault.TheVariants.{Transcript}
+use Rattle.dc_cli.proofs.ShelfLemmas.{told_bytes, held_is_there, held_within, AskedUpTo, asked_none, asked_first, LastAsked, last_is}
+use Rattle.dc_cli.proofs.MakingLemmas.{MakesOf-leaves, MakesOf-asked, MakesOf-asked_all, MakesOf-last, MakesOf-rose, MakesOf-missing, MakesOf-long, MakesOf-written, MakesOf-fault, MakesOf-completes, MakesOf-refuses}
 
 -- a name as a test of its truth
 name_is : (b : Bool) → IsTrue b → b ≡ true
@@ -27,17 +36,28 @@ name_is false h = h
 -- the words of a command are a form
 Spells-form : (words : List (List ℕ)) (command : Task) → Spells words command → is_form words ≡ true
 Spells-form words (sum file) p = let named : is_name file ≡ true = name_is (is_name file) p.1 in rw (p.0, named) refl
+Spells-form words (keygen seed net target) p =
+    let rest = p.2 in
+    let net_named : is_name net ≡ true = name_is (is_name net) rest.net_is in
+    let target_named : is_name target ≡ true = name_is (is_name target) rest.target_is in
+    rw (p.1, rest.words_are, rest.seed_is, net_named, target_named) refl
 
 not_both : (words : List (List ℕ)) (command : Task) → Spells words command → is_form words ≡ false → ⊥
 not_both words command p refused = let is = Spells-form words command p in absurd cc
 
--- the words of `sum` name one file
-same_file : (words : List (List ℕ)) (file other : List ℕ) → Spells words (sum file) → Spells words (sum other) → file ≡ other
-same_file words file other p q = let a = p.0 in let b = q.0 in cc
-
--- the bytes that are read of a known file
-told_bytes : (told : Holding) (bytes read : List ℕ) → told ≡ held bytes → Tells told read → read ≡ bytes
-told_bytes told bytes read e t = let P : Holding → Type 0 = λ h. Tells h read in subst P e t
+-- the words spell one command
+same_command : (words : List (List ℕ)) (a b : Task) → Spells words a → Spells words b → a ≡ b
+same_command words (sum file) (sum other) p q = let a = p.0 in let b = q.0 in let same : file ≡ other = cc in ap sum same
+same_command words (sum file) (keygen seed net target) p q = let a = p.0 in let b = q.1 in absurd cc
+same_command words (keygen seed net target) (sum file) p q = let a = p.1 in let b = q.0 in absurd cc
+same_command words (keygen seed net target) (keygen seed' net' target') p q =
+    let a = p.1 in
+    let b = q.1 in
+    let a_rest = p.2.words_are in
+    let b_rest = q.2.words_are in
+    let a_seed = p.2.seed_is in
+    let b_seed = q.2.seed_is in
+    cc
 
 refused_words : (words : List (List ℕ)) (s s' : ShelfState) (o o' : SinkState) (outcome : Outcome) → Ran words s s' o o' outcome → is_form words ≡ false → outcome ≡ Usage (longest_begun words)
 refused_words words s s' o o' (Usage place) ran refused = ap Usage ran.place_is
@@ -52,6 +72,8 @@ SummedFile-kept file s s' (Ok words) p = p.read.kept
 SummedFile-kept file s s' (Err (Missing name)) p = p.1.kept
 SummedFile-kept file s s' (Err (TooLong name)) p = p.1.kept
 SummedFile-kept file s s' (Err (Malformed name (Transcript fault))) p = p.1.read.kept
+SummedFile-kept file s s' (Err (Malformed name (Keys fault))) p = absurd p
+SummedFile-kept file s s' (Err (Malformed name (Manifest fault))) p = absurd p
 SummedFile-kept file s s' (Err ShelfFault) p = p.kept
 SummedFile-kept file s s' (Err NoMemory) p = elim p [ inl u ↦ u.0 | inr g ↦ g.read.kept ]
 SummedFile-kept file s s' (Err Done) p = absurd p
@@ -63,65 +85,53 @@ SumRan-kept file s s' o o' Done p = p.summed.read.kept
 SumRan-kept file s s' o o' SinkFault p = p.1.summed.read.kept
 SumRan-kept file s s' o o' other p = SummedFile-kept file s s' (Err other) p.1
 
-grown-nothing : (told : Option (List (List ℕ))) → told ≡ grown told []
-grown-nothing None = refl
-grown-nothing (Some xs) = ap Some (sym (append-nil xs))
-
--- a front of the one file was asked for
-abbrev AskedUpTo : List ℕ → ShelfState → ShelfState → Type 0
-AskedUpTo file s s' = (names : List (List ℕ)) × IsFront names (file ∷ []) × (s'.asked ≡ grown s.asked names)
-
-asked_whole : (file : List ℕ) (s s' : ShelfState) → s'.asked ≡ grown s.asked (file ∷ []) → AskedUpTo file s s'
-asked_whole file s s' e = (file ∷ [], ([], refl), e)
-
-asked_none : (file : List ℕ) (s s' : ShelfState) → s'.asked ≡ s.asked → AskedUpTo file s s'
-asked_none file s s' e = ([], (file ∷ [], refl), e ∙ grown-nothing s.asked)
-
-SummedFile-asked : (file : List ℕ) (s s' : ShelfState) (r : Result (List (List ℕ)) Outcome) → SummedFile file s s' r → AskedUpTo file s s'
-SummedFile-asked file s s' (Ok words) p = asked_whole file s s' p.read.asked
-SummedFile-asked file s s' (Err (Missing name)) p = asked_whole file s s' p.1.asked
-SummedFile-asked file s s' (Err (TooLong name)) p = asked_whole file s s' p.1.asked
-SummedFile-asked file s s' (Err (Malformed name (Transcript fault))) p = asked_whole file s s' p.1.read.asked
-SummedFile-asked file s s' (Err ShelfFault) p = asked_whole file s s' p.asked
-SummedFile-asked file s s' (Err NoMemory) p = elim p [ inl u ↦ asked_none file s s' u.1 | inr g ↦ asked_whole file s s' g.read.asked ]
+SummedFile-asked : (file : List ℕ) (s s' : ShelfState) (r : Result (List (List ℕ)) Outcome) → SummedFile file s s' r → AskedUpTo (file ∷ []) s s'
+SummedFile-asked file s s' (Ok words) p = asked_first file [] s s' p.read.asked
+SummedFile-asked file s s' (Err (Missing name)) p = asked_first file [] s s' p.1.asked
+SummedFile-asked file s s' (Err (TooLong name)) p = asked_first file [] s s' p.1.asked
+SummedFile-asked file s s' (Err (Malformed name (Transcript fault))) p = asked_first file [] s s' p.1.read.asked
+SummedFile-asked file s s' (Err (Malformed name (Keys fault))) p = absurd p
+SummedFile-asked file s s' (Err (Malformed name (Manifest fault))) p = absurd p
+SummedFile-asked file s s' (Err ShelfFault) p = asked_first file [] s s' p.asked
+SummedFile-asked file s s' (Err NoMemory) p = elim p [ inl u ↦ asked_none (file ∷ []) s s' u.1 | inr g ↦ asked_first file [] s s' g.read.asked ]
 SummedFile-asked file s s' (Err Done) p = absurd p
 SummedFile-asked file s s' (Err (Usage place)) p = absurd p
 SummedFile-asked file s s' (Err SinkFault) p = absurd p
 
-SumRan-asked : (file : List ℕ) (s s' : ShelfState) (o o' : SinkState) (outcome : Outcome) → SumRan file s s' o o' outcome → AskedUpTo file s s'
-SumRan-asked file s s' o o' Done p = asked_whole file s s' p.summed.read.asked
-SumRan-asked file s s' o o' SinkFault p = asked_whole file s s' p.1.summed.read.asked
+SumRan-asked : (file : List ℕ) (s s' : ShelfState) (o o' : SinkState) (outcome : Outcome) → SumRan file s s' o o' outcome → AskedUpTo (file ∷ []) s s'
+SumRan-asked file s s' o o' Done p = asked_first file [] s s' p.summed.read.asked
+SumRan-asked file s s' o o' SinkFault p = asked_first file [] s s' p.1.summed.read.asked
 SumRan-asked file s s' o o' other p = SummedFile-asked file s s' (Err other) p.1
 
--- what `sum` did with the file that its words name
-sum_ran : (words : List (List ℕ)) (file : List ℕ) (s s' : ShelfState) (o o' : SinkState) (outcome : Outcome) → Spells words (sum file) → RanCommand words s s' o o' outcome
-    → SumRan file s s' o o' outcome
-sum_ran words file s s' o o' outcome p ran = ran_as words file s s' o o' outcome ran.command p ran.spelled ran.ran
-  where
-    ran_as : (words : List (List ℕ)) (file : List ℕ) (s s' : ShelfState) (o o' : SinkState) (outcome : Outcome) (command : Task) → Spells words (sum file) → Spells words command
-        → CommandRan command s s' o o' outcome → SumRan file s s' o o' outcome
-    ran_as words file s s' o o' outcome (sum other) p q r = let e = same_file words file other p q in rw e r
+-- what the command of the words did
+ran_of : (words : List (List ℕ)) (command : Task) (s s' : ShelfState) (o o' : SinkState) (outcome : Outcome) → Spells words command → Ran words s s' o o' outcome
+    → CommandRan command s s' o o' outcome
+ran_of words command s s' o o' (Usage place) p ran = absurd (not_both words command p ran.no_form)
+ran_of words command s s' o o' other p ran =
+    let P : Task → Type 0 = λ c. CommandRan c s s' o o' other in
+    subst P (same_command words ran.command command ran.spelled p) ran.ran
 
-sum_ran_of : (words : List (List ℕ)) (file : List ℕ) (s s' : ShelfState) (o o' : SinkState) (outcome : Outcome) → Spells words (sum file) → Ran words s s' o o' outcome → SumRan file s s' o o' outcome
-sum_ran_of words file s s' o o' (Usage place) p ran = absurd (not_both words (sum file) p ran.no_form)
-sum_ran_of words file s s' o o' other p ran = sum_ran words file s s' o o' other p ran
-
-keeps_files : (words : List (List ℕ)) (command : Task) (s s' : ShelfState) (o o' : SinkState) (outcome : Outcome) → Spells words command → Ran words s s' o o' outcome → Leaves command s s'
-keeps_files words (sum file) s s' o o' outcome p ran = SumRan-kept file s s' o o' outcome (sum_ran_of words file s s' o o' outcome p ran)
+CommandRan-leaves : (command : Task) (s s' : ShelfState) (o o' : SinkState) (outcome : Outcome) → CommandRan command s s' o o' outcome → Leaves command outcome s s'
+CommandRan-leaves (sum file) s s' o o' outcome ran = SumRan-kept file s s' o o' outcome ran
+CommandRan-leaves (keygen seed net target) s s' o o' outcome ran = MakesOf-leaves (keygen_making seed net target) s s' outcome ran.1
 
 kept_unread : (words : List (List ℕ)) (s s' : ShelfState) (o o' : SinkState) (outcome : Outcome) → is_form words ≡ false → Ran words s s' o o' outcome → s'.holds ≡ s.holds
 kept_unread words s s' o o' (Usage place) refused ran = ap (λ (x : ShelfState). x.holds) ran.shelf_stays
 kept_unread words s s' o o' _ refused ran = absurd (not_both words ran.command ran.spelled refused)
 
-asked_front : (words : List (List ℕ)) (command : Task) (s s' : ShelfState) (o o' : SinkState) (outcome : Outcome) → Spells words command → Ran words s s' o o' outcome
-    → (files : List (List ℕ)) × AsksFor s command files × ((names : List (List ℕ)) × IsFront names files × (s'.asked ≡ grown s.asked names))
-asked_front words (sum file) s s' o o' outcome p ran = (file ∷ [], refl, SumRan-asked file s s' o o' outcome (sum_ran_of words file s s' o o' outcome p ran))
+CommandRan-asked : (command : Task) (s s' : ShelfState) (o o' : SinkState) (outcome : Outcome) → CommandRan command s s' o o' outcome
+    → (files : List (List ℕ)) × AsksFor s command files × AskedUpTo files s s'
+CommandRan-asked (sum file) s s' o o' outcome ran = (file ∷ [], refl, SumRan-asked file s s' o o' outcome ran)
+CommandRan-asked (keygen seed net target) s s' o o' outcome ran = (net ∷ target ∷ [], refl, MakesOf-asked (keygen_making seed net target) s s' outcome ran.1)
 
-asked_all : (words : List (List ℕ)) (command : Task) (s s' : ShelfState) (o o' : SinkState) (outcome : Outcome) → Spells words command → outcome ≡ Done → Ran words s s' o o' outcome
+CommandRan-asked_all : (command : Task) (s s' : ShelfState) (o o' : SinkState) → CommandRan command s s' o o' Done
     → (files : List (List ℕ)) × AsksFor s command files × (s'.asked ≡ grown s.asked files)
-asked_all words (sum file) s s' o o' outcome p e ran =
-    let done : SumRan file s s' o o' Done = let P : Outcome → Type 0 = λ x. SumRan file s s' o o' x in subst P e (sum_ran_of words file s s' o o' outcome p ran) in
-    (file ∷ [], refl, done.summed.read.asked)
+CommandRan-asked_all (sum file) s s' o o' ran = (file ∷ [], refl, ran.summed.read.asked)
+CommandRan-asked_all (keygen seed net target) s s' o o' ran = (net ∷ target ∷ [], refl, MakesOf-asked_all (keygen_making seed net target) s s' ran.1)
+
+asked_all : (command : Task) (s s' : ShelfState) (o o' : SinkState) (outcome : Outcome) → outcome ≡ Done → CommandRan command s s' o o' outcome
+    → (files : List (List ℕ)) × AsksFor s command files × (s'.asked ≡ grown s.asked files)
+asked_all command s s' o o' outcome e ran = let P : Outcome → Type 0 = λ x. CommandRan command s s' o o' x in CommandRan-asked_all command s s' o o' (subst P e ran)
 
 asked_nothing : (words : List (List ℕ)) (s s' : ShelfState) (o o' : SinkState) (outcome : Outcome) → is_form words ≡ false → Ran words s s' o o' outcome → s'.asked ≡ s.asked
 asked_nothing words s s' o o' (Usage place) refused ran = ap (λ (x : ShelfState). x.asked) ran.shelf_stays
@@ -135,6 +145,7 @@ SumRan-silent file s s' o o' other not_done not_sink p = p.0
 
 CommandRan-silent : (command : Task) (s s' : ShelfState) (o o' : SinkState) (outcome : Outcome) → (outcome ≡ Done → ⊥) → (outcome ≡ SinkFault → ⊥) → CommandRan command s s' o o' outcome → o' ≡ o
 CommandRan-silent (sum file) s s' o o' outcome not_done not_sink p = SumRan-silent file s s' o o' outcome not_done not_sink p
+CommandRan-silent (keygen seed net target) s s' o o' outcome not_done not_sink p = p.0
 
 silent : (words : List (List ℕ)) (s s' : ShelfState) (o o' : SinkState) (outcome : Outcome) → (outcome ≡ Done → ⊥) → (outcome ≡ SinkFault → ⊥) → Ran words s s' o o' outcome → o' ≡ o
 silent words s s' o o' (Usage place) not_done not_sink ran = ran.out_stays
@@ -154,6 +165,7 @@ done_as file s s' o o' outcome e p = let P : Outcome → Type 0 = λ x. SumRan f
 missing_cause : (command : Task) (s s' : ShelfState) (o o' : SinkState) (name : List ℕ) → CommandRan command s s' o o' (Missing name)
     → (s.holds name ≡ absent) ⊎ FailsUntold (s.holds name) s.faults s'.faults
 missing_cause (sum file) s s' o o' name ran = rw ran.1.0 ran.1.1.answer
+missing_cause (keygen seed net target) s s' o o' name ran = MakesOf-missing (keygen_making seed net target) s s' name ran.1
 
 missing : (words : List (List ℕ)) (s s' : ShelfState) (o o' : SinkState) (outcome : Outcome) (name : List ℕ) → outcome ≡ Missing name → Ran words s s' o o' outcome
     → (s.holds name ≡ absent) ⊎ FailsUntold (s.holds name) s.faults s'.faults
@@ -162,13 +174,19 @@ missing words s s' o o' outcome name e ran =
     let r : Ran words s s' o o' (Missing name) = subst P e ran in
     missing_cause r.command s s' o o' name r.ran
 
-too_long : (words : List (List ℕ)) (command : Task) (s s' : ShelfState) (o o' : SinkState) (outcome : Outcome) (name : List ℕ) → Spells words command → outcome ≡ TooLong name
-    → Ran words s s' o o' outcome
+long_cause : (command : Task) (s s' : ShelfState) (o o' : SinkState) (name : List ℕ) → CommandRan command s s' o o' (TooLong name)
     → (limit : ℕ) × HasLimit s command name limit × (IsHeldAbove (s.holds name) limit ⊎ FailsUntold (s.holds name) s.faults s'.faults)
-too_long words (sum file) s s' o o' outcome name p e ran =
-    let P : Outcome → Type 0 = λ x. SumRan file s s' o o' x in
-    let r : SumRan file s s' o o' (TooLong name) = subst P e (sum_ran_of words file s s' o o' outcome p ran) in
-    (transcript_limit, (r.1.0, refl), rw r.1.0 r.1.1.answer)
+long_cause (sum file) s s' o o' name ran = (transcript_limit, (ran.1.0, refl), rw ran.1.0 ran.1.1.answer)
+long_cause (keygen seed net target) s s' o o' name ran = (manifest_limit, (ran.1.0, refl), MakesOf-long (keygen_making seed net target) s s' name ran.1)
+
+too_long : (command : Task) (s s' : ShelfState) (o o' : SinkState) (outcome : Outcome) (name : List ℕ) → outcome ≡ TooLong name → CommandRan command s s' o o' outcome
+    → (limit : ℕ) × HasLimit s command name limit × (IsHeldAbove (s.holds name) limit ⊎ FailsUntold (s.holds name) s.faults s'.faults)
+too_long command s s' o o' outcome name e ran = let P : Outcome → Type 0 = λ x. CommandRan command s s' o o' x in long_cause command s s' o o' name (subst P e ran)
+
+-- no fault of a transcript is that of a manifest
+no_transcript_fault : (seed : List ℕ) (r : Result Content ManifestFault) (fault : TranscriptFault) → keys_for seed r ≡ Err (Transcript fault) → ⊥
+no_transcript_fault seed (Ok content) fault e = cc
+no_transcript_fault seed (Err seen) fault e = cc
 
 fault_cause : (command : Task) (s s' : ShelfState) (o o' : SinkState) (name bytes : List ℕ) (fault : TranscriptFault) → s.holds name ≡ held bytes
     → CommandRan command s s' o o' (Malformed name (Transcript fault)) → Refused bytes fault
@@ -177,6 +195,7 @@ fault_cause (sum file) s s' o o' name bytes fault told ran =
     let same : ran.1.1.bytes ≡ bytes = told_bytes (s.holds file) bytes ran.1.1.bytes told_file ran.1.1.read.answer.1 in
     let P : List ℕ → Type 0 = λ b. Refused b fault in
     subst P same ran.1.1.holds
+fault_cause (keygen seed net target) s s' o o' name bytes fault told ran = absurd (no_transcript_fault seed (manifest_of ran.1.1.bytes) fault ran.1.1.holds)
 
 malformed : (words : List (List ℕ)) (s s' : ShelfState) (o o' : SinkState) (outcome : Outcome) (name bytes : List ℕ) (fault : TranscriptFault)
     → outcome ≡ Malformed name (Transcript fault) → s.holds name ≡ held bytes → Ran words s s' o o' outcome → Refused bytes fault
@@ -185,40 +204,25 @@ malformed words s s' o o' outcome name bytes fault e told ran =
     let r : Ran words s s' o o' (Malformed name (Transcript fault)) = subst P e ran in
     fault_cause r.command s s' o o' name bytes fault told r.ran
 
--- the last name asked for
-abbrev LastAsked : List ℕ → ShelfState → ShelfState → Type 0
-LastAsked name s s' = (front : List (List ℕ)) × (s'.asked ≡ grown s.asked (front ++ name ∷ []))
-
-last_is : (name file : List ℕ) (s s' : ShelfState) → name ≡ file → s'.asked ≡ grown s.asked (file ∷ []) → LastAsked name s s'
-last_is name file s s' e asked = ([], rw e asked)
+SummedFile-last : (file : List ℕ) (s s' : ShelfState) (name : List ℕ) (fault : FileFault) → SummedFile file s s' (Err (Malformed name fault)) → LastAsked name s s'
+SummedFile-last file s s' name (Transcript fault) p = last_is name file s s' p.0 p.1.read.asked
+SummedFile-last file s s' name (Keys fault) p = absurd p
+SummedFile-last file s s' name (Manifest fault) p = absurd p
 
 SumRan-last : (file : List ℕ) (s s' : ShelfState) (o o' : SinkState) (outcome : Outcome) (name : List ℕ) → TellsName outcome name → SumRan file s s' o o' outcome → LastAsked name s s'
-SumRan-last file s s' o o' Done name tells p = elim tells [ inl e ↦ absurd cc | inr other ↦ elim other [ inl e ↦ absurd cc | inr m ↦ let e = m.1 in absurd cc ] ]
-SumRan-last file s s' o o' (Usage place) name tells p = absurd p.1
-SumRan-last file s s' o o' (Missing seen) name tells p = elim tells [
-  | inl e ↦ let same : name ≡ seen = cc in last_is name file s s' (same ∙ p.1.0) p.1.1.asked
-  | inr other ↦ elim other [ inl e ↦ absurd cc | inr m ↦ let e = m.1 in absurd cc ]
-]
-SumRan-last file s s' o o' (TooLong seen) name tells p = elim tells [
-  | inl e ↦ absurd cc
-  | inr other ↦ elim other [
-    | inl e ↦ let same : name ≡ seen = cc in last_is name file s s' (same ∙ p.1.0) p.1.1.asked
-    | inr m ↦ let e = m.1 in absurd cc
-  ]
-]
-SumRan-last file s s' o o' (Malformed seen (Transcript fault)) name tells p = elim tells [
-  | inl e ↦ absurd cc
-  | inr other ↦ elim other [
-    | inl e ↦ absurd cc
-    | inr m ↦ let e = m.1 in let same : name ≡ seen = cc in last_is name file s s' (same ∙ p.1.0) p.1.1.read.asked
-  ]
-]
-SumRan-last file s s' o o' ShelfFault name tells p = elim tells [ inl e ↦ absurd cc | inr other ↦ elim other [ inl e ↦ absurd cc | inr m ↦ let e = m.1 in absurd cc ] ]
-SumRan-last file s s' o o' SinkFault name tells p = elim tells [ inl e ↦ absurd cc | inr other ↦ elim other [ inl e ↦ absurd cc | inr m ↦ let e = m.1 in absurd cc ] ]
-SumRan-last file s s' o o' NoMemory name tells p = elim tells [ inl e ↦ absurd cc | inr other ↦ elim other [ inl e ↦ absurd cc | inr m ↦ let e = m.1 in absurd cc ] ]
+SumRan-last file s s' o o' outcome name tells p =
+    let P : Outcome → Type 0 = λ x. SumRan file s s' o o' x in
+    elim tells [
+      | inl e ↦ let q : SumRan file s s' o o' (Missing name) = subst P e p in last_is name file s s' q.1.0 q.1.1.asked
+      | inr other ↦ elim other [
+        | inl e ↦ let q : SumRan file s s' o o' (TooLong name) = subst P e p in last_is name file s s' q.1.0 q.1.1.asked
+        | inr f ↦ let q : SumRan file s s' o o' (Malformed name f.0) = subst P f.1 p in SummedFile-last file s s' name f.0 q.1
+      ]
+    ]
 
 CommandRan-last : (command : Task) (s s' : ShelfState) (o o' : SinkState) (outcome : Outcome) (name : List ℕ) → TellsName outcome name → CommandRan command s s' o o' outcome → LastAsked name s s'
 CommandRan-last (sum file) s s' o o' outcome name tells p = SumRan-last file s s' o o' outcome name tells p
+CommandRan-last (keygen seed net target) s s' o o' outcome name tells p = MakesOf-last (keygen_making seed net target) s s' outcome name tells p.1
 
 last_asked : (words : List (List ℕ)) (s s' : ShelfState) (o o' : SinkState) (outcome : Outcome) (name : List ℕ) → TellsName outcome name → Ran words s s' o o' outcome → LastAsked name s s'
 last_asked words s s' o o' (Usage place) name tells ran = elim tells [ inl e ↦ absurd cc | inr other ↦ elim other [ inl e ↦ absurd cc | inr m ↦ let e = m.1 in absurd cc ] ]
@@ -226,9 +230,11 @@ last_asked words s s' o o' other name tells ran = CommandRan-last ran.command s 
 
 shelf_rose : (command : Task) (s s' : ShelfState) (o o' : SinkState) → CommandRan command s s' o o' ShelfFault → Rose s.faults s'.faults
 shelf_rose (sum file) s s' o o' ran = ran.1.answer
+shelf_rose (keygen seed net target) s s' o o' ran = MakesOf-rose (keygen_making seed net target) s s' ran.1
 
 sink_rose : (command : Task) (s s' : ShelfState) (o o' : SinkState) → CommandRan command s s' o o' SinkFault → Rose o.faults o'.faults
 sink_rose (sum file) s s' o o' ran = ran.1.put.answer.1
+sink_rose (keygen seed net target) s s' o o' ran = absurd ran.1
 
 shelf_cause : (words : List (List ℕ)) (s s' : ShelfState) (o o' : SinkState) (outcome : Outcome) → outcome ≡ ShelfFault → Ran words s s' o o' outcome → Rose s.faults s'.faults
 shelf_cause words s s' o o' outcome e ran =
@@ -242,19 +248,6 @@ sink_cause words s s' o o' outcome e ran =
     let r : Ran words s s' o o' SinkFault = subst P e ran in
     sink_rose r.command s s' o o' r.ran
 
--- a held name is not missing
-held_is_there : (told : Holding) (bytes : List ℕ) → told ≡ held bytes → told ≡ absent → ⊥
-held_is_there told bytes a b = cc
-
--- held bytes within the limit are not above it
-held_within : (told : Holding) (bytes : List ℕ) (limit : ℕ) → told ≡ held bytes → length bytes ≤ limit → IsHeldAbove told limit → ⊥
-held_within told bytes limit a le above =
-    let same : bytes ≡ above.0 = held_same bytes above.0 (sym a ∙ above.1) in
-    omega (arith, ap length same, above.2)
-  where
-    held_same : (xs ys : List ℕ) → held xs ≡ held ys → xs ≡ ys
-    held_same xs ys e = cc
-
 SumRan-completes : (file : List ℕ) (session : Recorded) (s s' : ShelfState) (o o' : SinkState) (outcome : Outcome) → IsRecorded session → s.holds file ≡ held (transcript_bytes session)
     → length (transcript_bytes session) ≤ transcript_limit → (Rose s.faults s'.faults → ⊥) → (Rose o.faults o'.faults → ⊥) → SumRan file s s' o o' outcome
     → (outcome ≡ Done) ⊎ (outcome ≡ NoMemory)
@@ -267,6 +260,8 @@ SumRan-completes file session s s' o o' (Missing name) is told le calm_shelf cal
     absurd (elim p.1.1.answer [ inl gone ↦ held_is_there (s.holds file) (transcript_bytes session) told gone | inr rose ↦ calm_shelf rose.1 ])
 SumRan-completes file session s s' o o' (TooLong name) is told le calm_shelf calm_sink p =
     absurd (elim p.1.1.answer [ inl above ↦ held_within (s.holds file) (transcript_bytes session) transcript_limit told le above | inr rose ↦ calm_shelf rose.1 ])
+SumRan-completes file session s s' o o' (Malformed name (Keys fault)) is told le calm_shelf calm_sink p = absurd p.1
+SumRan-completes file session s s' o o' (Malformed name (Manifest fault)) is told le calm_shelf calm_sink p = absurd p.1
 SumRan-completes file session s s' o o' (Malformed name (Transcript fault)) is told le calm_shelf calm_sink p =
     let same : p.1.1.bytes ≡ transcript_bytes session = told_bytes (s.holds file) (transcript_bytes session) p.1.1.bytes told p.1.1.read.answer.1 in
     absurd (p.1.1.holds.no_transcript session is same)
@@ -288,6 +283,8 @@ SumRan-refuses file bytes fault s s' o o' (Missing name) told le bad calm p =
     absurd (elim p.1.1.answer [ inl gone ↦ held_is_there (s.holds file) bytes told gone | inr rose ↦ calm rose.1 ])
 SumRan-refuses file bytes fault s s' o o' (TooLong name) told le bad calm p =
     absurd (elim p.1.1.answer [ inl above ↦ held_within (s.holds file) bytes transcript_limit told le above | inr rose ↦ calm rose.1 ])
+SumRan-refuses file bytes fault s s' o o' (Malformed name (Keys seen)) told le bad calm p = absurd p.1
+SumRan-refuses file bytes fault s s' o o' (Malformed name (Manifest seen)) told le bad calm p = absurd p.1
 SumRan-refuses file bytes fault s s' o o' (Malformed name (Transcript seen)) told le bad calm p =
     let same : p.1.1.bytes ≡ bytes = told_bytes (s.holds file) bytes p.1.1.bytes told p.1.1.read.answer.1 in
     let other : transcript_of bytes ≡ Err seen = ap transcript_of (sym same) ∙ p.1.1.holds.first_fault in
@@ -298,6 +295,10 @@ SumRan-refuses file bytes fault s s' o o' (Malformed name (Transcript seen)) tol
 abbrev pub HasRun : Call → Type 0
 HasRun c = Ran c.words c.shelf c.shelf' c.out c.out' c.outcome
 
+-- what the command of the words did
+HasRun-as : (c : Call) (command : Task) → Spells c.words command → HasRun c → CommandRan command c.shelf c.shelf' c.out c.out' c.outcome
+HasRun-as c command p ran = ran_of c.words command c.shelf c.shelf' c.out c.out' c.outcome p ran
+
 pub RefusesOtherWords-run : (c : Call) → HasRun c → RefusesOtherWords c
 RefusesOtherWords-run c ran = record {
   refused = refused_words c.words c.shelf c.shelf' c.out c.out' c.outcome ran;
@@ -306,14 +307,14 @@ RefusesOtherWords-run c ran = record {
 
 pub KeepsFiles-run : (c : Call) → HasRun c → KeepsFiles c
 KeepsFiles-run c ran = record {
-  by = λ command p. keeps_files c.words command c.shelf c.shelf' c.out c.out' c.outcome p ran;
+  by = λ command p. CommandRan-leaves command c.shelf c.shelf' c.out c.out' c.outcome (HasRun-as c command p ran);
   none = λ refused. kept_unread c.words c.shelf c.shelf' c.out c.out' c.outcome refused ran;
 }
 
 pub AsksInOrder-run : (c : Call) → HasRun c → AsksInOrder c
 AsksInOrder-run c ran = record {
-  front = λ command p. asked_front c.words command c.shelf c.shelf' c.out c.out' c.outcome p ran;
-  whole = λ command p e. asked_all c.words command c.shelf c.shelf' c.out c.out' c.outcome p e ran;
+  front = λ command p. CommandRan-asked command c.shelf c.shelf' c.out c.out' c.outcome (HasRun-as c command p ran);
+  whole = λ command p e. asked_all command c.shelf c.shelf' c.out c.out' c.outcome e (HasRun-as c command p ran);
   none = λ refused. asked_nothing c.words c.shelf c.shelf' c.out c.out' c.outcome refused ran;
 }
 
@@ -322,13 +323,13 @@ PrintsOnlyWhenDone-run c ran = λ not_done not_sink. silent c.words c.shelf c.sh
 
 pub PrintsSums-run : (c : Call) → HasRun c → PrintsSums c
 PrintsSums-run c ran = λ e file bytes p told. done_prints file bytes c.shelf c.shelf' c.out c.out' told
-    (done_as file c.shelf c.shelf' c.out c.out' c.outcome e (sum_ran_of c.words file c.shelf c.shelf' c.out c.out' c.outcome p ran))
+    (done_as file c.shelf c.shelf' c.out c.out' c.outcome e (HasRun-as c (sum file) p ran))
 
 pub MissesTheAbsent-run : (c : Call) → HasRun c → MissesTheAbsent c
 MissesTheAbsent-run c ran = λ name e. missing c.words c.shelf c.shelf' c.out c.out' c.outcome name e ran
 
 pub RefusesTheLong-run : (c : Call) → HasRun c → RefusesTheLong c
-RefusesTheLong-run c ran = λ command name p e. too_long c.words command c.shelf c.shelf' c.out c.out' c.outcome name p e ran
+RefusesTheLong-run c ran = λ command name p e. too_long command c.shelf c.shelf' c.out c.out' c.outcome name e (HasRun-as c command p ran)
 
 pub TellsTheFault-run : (c : Call) → HasRun c → TellsTheFault c
 TellsTheFault-run c ran = λ name bytes fault e told. malformed c.words c.shelf c.shelf' c.out c.out' c.outcome name bytes fault e told ran
@@ -345,11 +346,41 @@ short_enough session is = omega (arith, transcript_size session is)
 
 pub Completes-run : (c : Call) → HasRun c → Completes c
 Completes-run c ran = λ file session p is told calm_shelf calm_sink. SumRan-completes file session c.shelf c.shelf' c.out c.out' c.outcome is told
-    (short_enough session is) calm_shelf calm_sink (sum_ran_of c.words file c.shelf c.shelf' c.out c.out' c.outcome p ran)
+    (short_enough session is) calm_shelf calm_sink (HasRun-as c (sum file) p ran)
 
 pub RefusesTheMalformed-run : (c : Call) → HasRun c → RefusesTheMalformed c
 RefusesTheMalformed-run c ran = λ file bytes fault p told le bad calm. SumRan-refuses file bytes fault c.shelf c.shelf' c.out c.out' c.outcome told le bad calm
-    (sum_ran_of c.words file c.shelf c.shelf' c.out c.out' c.outcome p ran)
+    (HasRun-as c (sum file) p ran)
 
 pub TellsTheLast-run : (c : Call) → HasRun c → TellsTheLast c
 TellsTheLast-run c ran = λ name tells. last_asked c.words c.shelf c.shelf' c.out c.out' c.outcome name tells ran
+
+-- a command that makes one file of another, and prints nothing
+MakesFile-run : (c : Call) (m : Making) → c.out' ≡ c.out → MakesOf m c.shelf c.shelf' c.outcome → MakesFile c m
+MakesFile-run c m silent ran =
+    let P : Outcome → Type 0 = λ x. MakesOf m c.shelf c.shelf' x in
+    record {
+      silent = silent;
+      written = λ e read told. MakesOf-written m c.shelf c.shelf' read told (subst P e ran);
+      complete = λ read bytes told le good calm. MakesOf-completes m c.shelf c.shelf' c.outcome read bytes told le good calm ran;
+      malformed = λ read fault told le bad calm. MakesOf-refuses m c.shelf c.shelf' c.outcome read fault told le bad calm ran;
+      fault = λ name read fault e told. MakesOf-fault m c.shelf c.shelf' name read fault told (subst P e ran);
+    }
+
+pub RunsKeygen-run : (c : Call) → HasRun c → RunsKeygen c
+RunsKeygen-run c ran = λ seed net target p. let q = HasRun-as c (keygen seed net target) p ran in MakesFile-run c (keygen_making seed net target) q.0 q.1
+
+-- what a manifest with a key file is
+keys_of : (seed : List ℕ) (r : Result Content ManifestFault) (bytes : List ℕ) → keys_for seed r ≡ Ok bytes
+    → (content : Content) × (r ≡ Ok content) × (bytes ≡ keys_bytes (generated_keys seed content.graph content.words))
+keys_of seed (Ok content) bytes e = (content, refl, same_bytes (keys_bytes (generated_keys seed content.graph content.words)) bytes (Ok bytes) refl e)
+  where
+    same_bytes : (xs ys : List ℕ) (r : Result (List ℕ) FileFault) → r ≡ Ok ys → Ok xs ≡ r → ys ≡ xs
+    same_bytes xs ys r a b = cc
+keys_of seed (Err fault) bytes e = absurd cc
+
+pub WritesKeys-run : (c : Call) → HasRun c → WritesKeys c
+WritesKeys-run c ran = λ e seed net target read p told.
+    let w = (RunsKeygen-run c ran seed net target p).written e read told in
+    let k = keys_of seed (manifest_of read) w.0 w.1 in
+    (k.0, k.1, w.2 ∙ ap (λ (bytes : List ℕ). rewritten (c.shelf.holds target) bytes) k.2)

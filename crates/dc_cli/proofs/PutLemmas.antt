@@ -7,14 +7,14 @@ use Rattle.dc_edge.specs.Sink.{Puts, PutAnswer, Appended}
 use Rattle.dc_edge.specs.declared.fault.Failed.{Failed}
 
 -- a list grown twice
-grown-grown : (told : Option (List ℕ)) (a b : List ℕ) → grown (grown told a) b ≡ grown told (a ++ b)
+pub grown-grown : {A : Type 0} (told : Option (List A)) (a b : List A) → grown (grown told a) b ≡ grown told (a ++ b)
 grown-grown None a b = refl
 grown-grown (Some xs) a b = ap Some (append_assoc xs a b)
 
 Appended-then : (a b : List ℕ) (s0 s1 s2 : SinkState) → Appended a s0 s1 → Appended b s1 s2 → Appended (a ++ b) s0 s2
 Appended-then a b s0 s1 s2 p q = q ∙ ap (λ (told : Option (List ℕ)). grown told b) p ∙ grown-grown s0.written a b
 
-grown-nothing : (told : Option (List ℕ)) → told ≡ grown told []
+pub grown-nothing : {A : Type 0} (told : Option (List A)) → told ≡ grown told []
 grown-nothing None = refl
 grown-nothing (Some xs) = ap Some (sym (append-nil xs))
 
@@ -26,7 +26,7 @@ both_empty : (a b : List ℕ) → a ++ b ≡ [] → (a ≡ []) × (b ≡ [])
 both_empty [] b e = (refl, e)
 both_empty (x ∷ a) b e = absurd cc
 
-Rose-earlier : (n0 n1 n2 : ℕ) → n0 ≤ n1 → Rose n1 n2 → Rose n0 n2
+pub Rose-earlier : (n0 n1 n2 : ℕ) → n0 ≤ n1 → Rose n1 n2 → Rose n0 n2
 Rose-earlier n0 n1 n2 le rose = omega arith
 
 answer-then : (a b : List ℕ) (s0 s1 s2 : SinkState) (r : Result Unit Failed) → s0.faults ≤ s1.faults → Appended a s0 s1 → PutAnswer b s1 s2 r → PutAnswer (a ++ b) s0 s2 r

@@ -1,18 +1,26 @@
--- Statuses, fault lines and the limit, each with its number or text, by computation.
-use Rattle.std.proofs.Common.{◌≡◌, ℕ, List, [], ◌∷◌, ◌++◌, refl}
+-- Statuses, fault lines and limits, each with its number or text, by computation.
+use Rattle.std.proofs.Common.{◌≡◌, pos, negsuc, [], ◌∷◌, ◌++◌, refl}
 use Rattle.std.specs.Prelude.{codes}
 use Rattle.std.specs.Fmt.{digits}
-use Rattle.dc_spec.specs.Limits.{transcript_limit}
+use Rattle.dc_spec.specs.Limits.{transcript_limit, manifest_limit, key_file_limit}
 use Rattle.dc_superpose.specs.declared.fault.TranscriptFault.TheVariants.{Truncated, Magic, Stations, Words, Symbol, Rest}
+use Rattle.dc_keyfile.specs.declared.fault.KeyFault.TheVariants as key
+use Rattle.dc_graph.specs.declared.fault.GraphFault.TheVariants as graph
+use Rattle.dc_manifest.specs.declared.fault.ManifestFault.TheVariants as manifest
 use Rattle.dc_cli.specs.Lines.{fault_line}
 use Rattle.dc_cli.specs.Outcomes.{status_of}
-use Rattle.dc_cli.specs.declared.outcome.FileFault.{FileFault}
-use Rattle.dc_cli.specs.declared.outcome.FileFault.TheVariants.{Transcript}
+use Rattle.dc_cli.specs.declared.outcome.FileFault.TheVariants.{Transcript, Keys, Manifest}
 use Rattle.dc_cli.specs.declared.outcome.Outcome.TheVariants.{Done, Usage, Missing, TooLong, Malformed, ShelfFault, SinkFault, NoMemory}
 
--- the most bytes of a transcript
-limit-number : transcript_limit ≡ 134217728
-limit-number = refl
+-- the most bytes of each file
+limit-transcript : transcript_limit ≡ 134217728
+limit-transcript = refl
+
+limit-manifest : manifest_limit ≡ 1048576
+limit-manifest = refl
+
+limit-key_file : key_file_limit ≡ 269484032
+limit-key_file = refl
 
 -- ---- statuses
 
@@ -88,3 +96,93 @@ line-Symbol = refl
 line-Rest : fault_line (Malformed (codes "t.bin") (Transcript (Rest 136))) ≡ codes "dcnet: t.bin: malformed: rest at=136" ++ 10 ∷ []
 unfolding digits
 line-Rest = refl
+
+-- ---- the eleven faults of a key file
+
+key-Truncated : fault_line (Malformed (codes "f") (Keys (key.Truncated 11 12))) ≡ codes "dcnet: f: malformed: truncated at=11 need=12" ++ 10 ∷ []
+unfolding digits
+key-Truncated = refl
+
+key-Magic : fault_line (Malformed (codes "f") (Keys key.Magic)) ≡ codes "dcnet: f: malformed: magic" ++ 10 ∷ []
+key-Magic = refl
+
+key-Version : fault_line (Malformed (codes "f") (Keys (key.Version 3))) ≡ codes "dcnet: f: malformed: version seen=3" ++ 10 ∷ []
+unfolding digits
+key-Version = refl
+
+key-Stations : fault_line (Malformed (codes "f") (Keys (key.Stations 0))) ≡ codes "dcnet: f: malformed: stations seen=0" ++ 10 ∷ []
+unfolding digits
+key-Stations = refl
+
+key-Words : fault_line (Malformed (codes "f") (Keys (key.Words 4097))) ≡ codes "dcnet: f: malformed: words seen=4097" ++ 10 ∷ []
+unfolding digits
+key-Words = refl
+
+key-TooLarge : fault_line (Malformed (codes "f") (Keys (key.TooLarge 67108896))) ≡ codes "dcnet: f: malformed: too-large symbols=67108896" ++ 10 ∷ []
+unfolding digits
+key-TooLarge = refl
+
+key-Pair : fault_line (Malformed (codes "f") (Keys (key.Pair 2))) ≡ codes "dcnet: f: malformed: pair place=2" ++ 10 ∷ []
+unfolding digits
+key-Pair = refl
+
+key-Order : fault_line (Malformed (codes "f") (Keys (key.Order 1))) ≡ codes "dcnet: f: malformed: order place=1" ++ 10 ∷ []
+unfolding digits
+key-Order = refl
+
+key-Symbol : fault_line (Malformed (codes "f") (Keys (key.Symbol 0 17 65537))) ≡ codes "dcnet: f: malformed: symbol pair=0 index=17 seen=65537" ++ 10 ∷ []
+unfolding digits
+key-Symbol = refl
+
+key-FirstSecondPad : fault_line (Malformed (codes "f") (Keys (key.FirstSecondPad 3))) ≡ codes "dcnet: f: malformed: first-second-pad pair=3" ++ 10 ∷ []
+unfolding digits
+key-FirstSecondPad = refl
+
+key-Rest : fault_line (Malformed (codes "f") (Keys (key.Rest 1944))) ≡ codes "dcnet: f: malformed: rest at=1944" ++ 10 ∷ []
+unfolding digits
+key-Rest = refl
+
+-- ---- the eight faults of a manifest, and the three of its key graph; the name of a field is written as it is
+
+manifest-Toml : fault_line (Malformed (codes "f") (Manifest manifest.Toml)) ≡ codes "dcnet: f: malformed: toml" ++ 10 ∷ []
+manifest-Toml = refl
+
+manifest-Unknown : fault_line (Malformed (codes "f") (Manifest (manifest.Unknown (codes "pads")))) ≡ codes "dcnet: f: malformed: unknown name=pads" ++ 10 ∷ []
+manifest-Unknown = refl
+
+manifest-Unknown-empty : fault_line (Malformed (codes "f") (Manifest (manifest.Unknown []))) ≡ codes "dcnet: f: malformed: unknown name=" ++ 10 ∷ []
+manifest-Unknown-empty = refl
+
+manifest-Field : fault_line (Malformed (codes "f") (Manifest (manifest.Field (codes "edges")))) ≡ codes "dcnet: f: malformed: field name=edges" ++ 10 ∷ []
+manifest-Field = refl
+
+manifest-Kind : fault_line (Malformed (codes "f") (Manifest (manifest.Kind (codes "words")))) ≡ codes "dcnet: f: malformed: kind name=words" ++ 10 ∷ []
+manifest-Kind = refl
+
+manifest-Range : fault_line (Malformed (codes "f") (Manifest (manifest.Range (codes "words") (pos 0)))) ≡ codes "dcnet: f: malformed: range name=words seen=0" ++ 10 ∷ []
+unfolding digits
+manifest-Range = refl
+
+manifest-Range-negative : fault_line (Malformed (codes "f") (Manifest (manifest.Range (codes "stations") (negsuc 11)))) ≡ codes "dcnet: f: malformed: range name=stations seen=-12" ++ 10 ∷ []
+unfolding digits
+manifest-Range-negative = refl
+
+manifest-Graph-Stations : fault_line (Malformed (codes "f") (Manifest (manifest.Graph (graph.Stations 257)))) ≡ codes "dcnet: f: malformed: graph stations seen=257" ++ 10 ∷ []
+unfolding digits
+manifest-Graph-Stations = refl
+
+manifest-Graph-Ends : fault_line (Malformed (codes "f") (Manifest (manifest.Graph (graph.Ends 4)))) ≡ codes "dcnet: f: malformed: graph ends place=4" ++ 10 ∷ []
+unfolding digits
+manifest-Graph-Ends = refl
+
+manifest-Graph-Repeated : fault_line (Malformed (codes "f") (Manifest (manifest.Graph (graph.Repeated 3)))) ≡ codes "dcnet: f: malformed: graph repeated place=3" ++ 10 ∷ []
+unfolding digits
+manifest-Graph-Repeated = refl
+
+manifest-Member : fault_line (Malformed (codes "f") (Manifest (manifest.Member 1))) ≡ codes "dcnet: f: malformed: member place=1" ++ 10 ∷ []
+unfolding digits
+manifest-Member = refl
+
+manifest-TooLarge : fault_line (Malformed (codes "f") (Manifest (manifest.TooLarge 67112960))) ≡ codes "dcnet: f: malformed: too-large symbols=67112960" ++ 10 ∷ []
+unfolding digits
+manifest-TooLarge = refl

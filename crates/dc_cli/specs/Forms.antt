@@ -1,23 +1,35 @@
 -- The forms of the command line.
-use Rattle.std.specs.Prelude.{String, ℕ, suc, Bool, true, false, not, ◌&&◌, ◌==◌, max, List, [], ◌∷◌, map, codes, if◌then◌else◌, fold}
+use Rattle.std.specs.Prelude.{String, ℕ, suc, Bool, true, false, not, ◌&&◌, ◌==◌, max, List, [], ◌∷◌, length, map, codes, if◌then◌else◌, fold, Option, None, Some, is_some}
 use Rattle.std.specs.String.{string_bytes}
 use Rattle.std.specs.Str.{bytes_eq}
 use Rattle.std.specs.List.{list_any}
+use Rattle.dc_text.specs.Payload.{payload_in}
 
--- the place of a word in a form: a fixed word, or a name
+-- the place of a word in a form: a fixed word, a name, or a seed
 pub data Slot : Type 0 where
   literal : List ℕ → Slot
   name : Slot
+  seed_word : Slot
 
 -- a name is not empty and does not begin with `-`
 abbrev pub is_name : List ℕ → Bool
 is_name [] = false
 is_name (c ∷ _) = not (c == 45)
 
--- a word fits a place: it is the fixed word, or a name
+-- bytes that are so many
+abbrev pub of_length : ℕ → Option (List ℕ) → Option (List ℕ)
+of_length n None = None
+of_length n (Some bytes) = if length bytes == n then Some bytes else None
+
+-- the 32 bytes of a seed, which a word spells in 64 lower-case hexadecimal digits
+abbrev pub seed_in : List ℕ → Option (List ℕ)
+seed_in word = of_length 32 (payload_in word)
+
+-- a word fits a place: it is the fixed word, a name, or a seed
 abbrev pub fits : Slot → List ℕ → Bool
 fits (literal due) word = bytes_eq word due
 fits name word = is_name word
+fits seed_word word = is_some (seed_in word)
 
 -- how many words from the front fit a form, one by one
 abbrev pub begun : List Slot → List (List ℕ) → ℕ
@@ -34,7 +46,10 @@ spells (slot ∷ slots) (word ∷ words) = fits slot word && spells slots words
 
 -- all forms of the command line
 abbrev pub forms : List (List Slot)
-forms = (literal (codes "sum") ∷ name ∷ []) ∷ []
+forms =
+    (literal (codes "sum") ∷ name ∷ [])
+    ∷ (literal (codes "keygen") ∷ seed_word ∷ name ∷ name ∷ [])
+    ∷ []
 
 -- the words are one of the forms
 abbrev pub is_form : List (List ℕ) → Bool

@@ -1,8 +1,13 @@
 pub mod Outcomes
+pub mod Pieces
+pub mod KeyFaultText
+pub mod ManifestFaultText
 pub mod Lines
 pub mod Forms
 pub mod Commands
 pub mod Reading
 pub mod Summing
+pub mod Making
+pub mod Keygen
 pub mod Ran
 pub mod Promises

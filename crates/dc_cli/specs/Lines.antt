@@ -1,16 +1,15 @@
 -- The line that each outcome puts on the sink of faults.
-use Rattle.std.specs.Prelude.{ℕ, List, [], ◌++◌, codes, decimal}
+use Rattle.std.specs.Prelude.{ℕ, List, [], ◌++◌, codes}
 use Rattle.dc_spec.specs.Text.{line}
 use Rattle.dc_superpose.specs.declared.fault.TranscriptFault.{TranscriptFault}
 use Rattle.dc_superpose.specs.declared.fault.TranscriptFault.TheVariants.{Truncated, Magic, Stations, Words, Symbol, Rest}
+use Rattle.dc_cli.specs.Pieces.{numbered}
+use Rattle.dc_cli.specs.KeyFaultText.{key_fault_text}
+use Rattle.dc_cli.specs.ManifestFaultText.{manifest_fault_text}
 use Rattle.dc_cli.specs.declared.outcome.FileFault.{FileFault}
-use Rattle.dc_cli.specs.declared.outcome.FileFault.TheVariants.{Transcript}
+use Rattle.dc_cli.specs.declared.outcome.FileFault.TheVariants.{Transcript, Keys, Manifest}
 use Rattle.dc_cli.specs.declared.outcome.Outcome.{Outcome}
 use Rattle.dc_cli.specs.declared.outcome.Outcome.TheVariants.{Done, Usage, Missing, TooLong, Malformed, ShelfFault, SinkFault, NoMemory}
-
--- a text and a number after it, in decimal
-abbrev pub numbered : List ℕ → ℕ → List ℕ
-numbered text n = text ++ decimal n
 
 -- a fault of a transcript: its name, then its fields
 abbrev pub transcript_fault_text : TranscriptFault → List ℕ
@@ -24,6 +23,8 @@ transcript_fault_text (Rest at) = numbered (codes "rest at=") at
 -- a fault of a file: that of its format
 abbrev pub file_fault_text : FileFault → List ℕ
 file_fault_text (Transcript fault) = transcript_fault_text fault
+file_fault_text (Keys fault) = key_fault_text fault
+file_fault_text (Manifest fault) = manifest_fault_text fault
 
 -- the text of each outcome
 abbrev pub outcome_text : Outcome → List ℕ

@@ -1,15 +1,21 @@
 -- The promises of a call in its reader's words; each follows from what the call did by its outcome.
-use Rattle.std.specs.Prelude.{String, ℕ, ◌≡◌, ◌≤◌, ◌⊎◌, List, [], ◌∷◌, ◌++◌, length, false, Err}
+use Rattle.std.specs.Prelude.{String, ℕ, ◌≡◌, ◌≤◌, ◌⊎◌, List, [], ◌∷◌, ◌++◌, length, false, Ok, Err}
 use Rattle.dc_spec.specs.Outside.{ShelfState, SinkState, absent, held, Rose, grown, IsFront}
-use Rattle.dc_spec.specs.Limits.{transcript_limit}
+use Rattle.dc_spec.specs.Limits.{transcript_limit, manifest_limit}
 use Rattle.dc_spec.specs.Recorded.{Recorded, IsRecorded, transcript_bytes, superposed}
 use Rattle.dc_spec.specs.Text.{words_text}
-use Rattle.dc_edge.specs.Shelf.{IsHeldAbove, FailsUntold}
+use Rattle.dc_edge.specs.Shelf.{IsHeldAbove, FailsUntold, OthersStay, rewritten}
+use Rattle.dc_formats.specs.KeyFile.{keys_bytes}
+use Rattle.dc_keyfile.specs.Generator.{generated_keys}
+use Rattle.dc_manifest.specs.Content.{Content}
+use Rattle.dc_manifest.specs.Reading.{manifest_of}
 use Rattle.dc_superpose.specs.Reading.{transcript_of}
 use Rattle.dc_superpose.specs.declared.fault.TranscriptFault.{TranscriptFault}
 use Rattle.dc_cli.specs.Forms.{texts, is_form, longest_begun}
-use Rattle.dc_cli.specs.Commands.{Task, sum, Spells}
+use Rattle.dc_cli.specs.Commands.{Task, sum, keygen, Spells}
 use Rattle.dc_cli.specs.Summing.{Refused}
+use Rattle.dc_cli.specs.Making.{Making}
+use Rattle.dc_cli.specs.Keygen.{keygen_making}
 use Rattle.dc_cli.specs.declared.outcome.Outcome.{Outcome}
 use Rattle.dc_cli.specs.declared.outcome.Outcome.TheVariants.{Done, Usage, Missing, TooLong, Malformed, ShelfFault, SinkFault, NoMemory}
 use Rattle.dc_cli.specs.declared.outcome.FileFault.{FileFault}
@@ -32,19 +38,27 @@ call shelf_state sink_state words shelf shelf' out out' outcome =
 -- the files that a command asks for, in order; by the shelf's state, since a file may name others
 abbrev pub AsksFor : ShelfState → Task → List (List ℕ) → Type 0
 AsksFor shelf (sum file) files = files ≡ file ∷ []
+AsksFor shelf (keygen seed net target) files = files ≡ net ∷ target ∷ []
 
 -- words that are not a form are refused, and no others are
 pub record RefusesOtherWords (c : Call) : Type 0 where
   pub refused : is_form c.words ≡ false → c.outcome ≡ Usage (longest_begun c.words)
   pub only : (place : ℕ) → c.outcome ≡ Usage place → is_form c.words ≡ false
 
--- the files that a command leaves: all, as they were
-abbrev pub Leaves : Task → ShelfState → ShelfState → Type 0
-Leaves (sum file) before after = after.holds ≡ before.holds
+-- a command that writes one name leaves all others; the name stays too, unless all was done or the shelf failed
+abbrev pub LeavesOthers : List ℕ → Outcome → ShelfState → ShelfState → Type 0
+LeavesOthers target Done before after = OthersStay target before after
+LeavesOthers target ShelfFault before after = OthersStay target before after
+LeavesOthers target other before after = after.holds ≡ before.holds
+
+-- the files that a command leaves as they were, by its outcome: all, but for one that it writes
+abbrev pub Leaves : Task → Outcome → ShelfState → ShelfState → Type 0
+Leaves (sum file) outcome before after = after.holds ≡ before.holds
+Leaves (keygen seed net target) outcome before after = LeavesOthers target outcome before after
 
 -- each file stays, unless the command of the words writes it
 pub record KeepsFiles (c : Call) : Type 0 where
-  pub by : (command : Task) → Spells c.words command → Leaves command c.shelf c.shelf'
+  pub by : (command : Task) → Spells c.words command → Leaves command c.outcome c.shelf c.shelf'
   pub none : is_form c.words ≡ false → c.shelf'.holds ≡ c.shelf.holds
 
 -- the shelf was asked for a front of the files of the command
@@ -73,6 +87,7 @@ PrintsSums c = c.outcome ≡ Done → (file bytes : List ℕ) → Spells c.words
 -- a file that a command asks for, and the most bytes that it may have
 abbrev pub HasLimit : ShelfState → Task → List ℕ → ℕ → Type 0
 HasLimit shelf (sum file) name limit = (name ≡ file) × (limit ≡ transcript_limit)
+HasLimit shelf (keygen seed net target) name limit = (name ≡ net) × (limit ≡ manifest_limit)
 
 -- the outcome reports a name
 abbrev pub TellsName : Outcome → List ℕ → Type 0
@@ -110,3 +125,29 @@ pub record HasCauses (c : Call) : Type 0 where
 abbrev pub Completes : Call → Type 0
 Completes c = (file : List ℕ) → (session : Recorded) → Spells c.words (sum file) → IsRecorded session → c.shelf.holds file ≡ held (transcript_bytes session) →
     (Rose c.shelf.faults c.shelf'.faults → ⊥) → (Rose c.out.faults c.out'.faults → ⊥) → (c.outcome ≡ Done) ⊎ (c.outcome ≡ NoMemory)
+
+-- a command that makes one file of another
+pub record MakesFile (c : Call) (m : Making) : Type 0 where
+  -- nothing is printed
+  pub silent : c.out' ≡ c.out
+  -- where all is done and the file is known, the target holds what the file makes, unless nothing was known of the target
+  pub written : c.outcome ≡ Done → (read : List ℕ) → c.shelf.holds m.source ≡ held read →
+      (bytes : List ℕ) × (m.due read ≡ Ok bytes) × (c.shelf'.holds m.target ≡ rewritten (c.shelf.holds m.target) bytes)
+  -- where the known file is within its limit and makes something, and no count of faults rose, all is done, or memory ran out
+  pub complete : (read bytes : List ℕ) → c.shelf.holds m.source ≡ held read → length read ≤ m.limit → m.due read ≡ Ok bytes →
+      (Rose c.shelf.faults c.shelf'.faults → ⊥) → (c.outcome ≡ Done) ⊎ (c.outcome ≡ NoMemory)
+  -- a known file within its limit that has a fault is refused by it, unless the count of faults rose or memory ran out
+  pub malformed : (read : List ℕ) → (fault : FileFault) → c.shelf.holds m.source ≡ held read → length read ≤ m.limit → m.due read ≡ Err fault →
+      (Rose c.shelf.faults c.shelf'.faults → ⊥) → (c.outcome ≡ Malformed m.source fault) ⊎ (c.outcome ≡ NoMemory)
+  -- a reported fault is that of the file, where it is known
+  pub fault : (name read : List ℕ) → (fault : FileFault) → c.outcome ≡ Malformed name fault → c.shelf.holds m.source ≡ held read → m.due read ≡ Err fault
+
+-- `keygen` makes the key file that a seed generates for the graph and the words of a manifest
+abbrev pub RunsKeygen : Call → Type 0
+RunsKeygen c = (seed net target : List ℕ) → Spells c.words (keygen seed net target) → MakesFile c (keygen_making seed net target)
+
+-- where `keygen` is done and the manifest is known, the target holds the key file of the generated keys, unless nothing was known of the target
+abbrev pub WritesKeys : Call → Type 0
+WritesKeys c = c.outcome ≡ Done → (seed net target bytes : List ℕ) → Spells c.words (keygen seed net target) → c.shelf.holds net ≡ held bytes →
+    (content : Content) × (manifest_of bytes ≡ Ok content)
+    × (c.shelf'.holds target ≡ rewritten (c.shelf.holds target) (keys_bytes (generated_keys seed content.graph content.words)))

@@ -1,8 +1,9 @@
--- Reading one file, by how it ended.
+-- Reading one file, by how it ended, and the outcome of a fault in it.
 use Rattle.std.specs.Prelude.{ℕ, ◌≡◌, List, Result, Ok, Err}
 use Rattle.dc_spec.specs.Outside.{ShelfState}
 use Rattle.dc_edge.specs.Shelf.{Reads}
 use Rattle.dc_edge.specs.declared.fault.ShelfFault.TheVariants as faults
+use Rattle.dc_cli.specs.declared.outcome.FileFault.{FileFault}
 use Rattle.dc_cli.specs.declared.outcome.Outcome.{Outcome}
 use Rattle.dc_cli.specs.declared.outcome.Outcome.TheVariants.{Done, Usage, Missing, TooLong, Malformed, ShelfFault, SinkFault, NoMemory}
 
@@ -21,3 +22,15 @@ ReadsFile file limit before after (Err Done) = ⊥
 ReadsFile file limit before after (Err (Usage place)) = ⊥
 ReadsFile file limit before after (Err (Malformed name fault)) = ⊥
 ReadsFile file limit before after (Err SinkFault) = ⊥
+
+-- the shelf was asked for the file alone and gave bytes within the limit, of which this holds
+pub record GaveBytes (file : List ℕ) (limit : ℕ) (before after : ShelfState) (Holds : List ℕ → Type 0) : Type 0 where
+  pub bytes : List ℕ
+  pub read : Reads file limit before after (Ok bytes)
+  pub holds : Holds bytes
+
+-- the outcome of a file's fault: the file is malformed, or there was no memory for its name
+abbrev pub TellsFault : List ℕ → FileFault → Outcome → Type 0
+TellsFault file fault (Malformed name seen) = (name ≡ file) × (seen ≡ fault)
+TellsFault file fault NoMemory = Unit {0}
+TellsFault file fault _ = ⊥

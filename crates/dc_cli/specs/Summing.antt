@@ -10,7 +10,7 @@ use Rattle.dc_edge.specs.declared.fault.Failed.{Failed}
 use Rattle.dc_edge.specs.declared.fault.ShelfFault.TheVariants as faults
 use Rattle.dc_superpose.specs.Reading.{transcript_of}
 use Rattle.dc_superpose.specs.declared.fault.TranscriptFault.{TranscriptFault}
-use Rattle.dc_cli.specs.Reading.{Unasked}
+use Rattle.dc_cli.specs.Reading.{Unasked, GaveBytes}
 use Rattle.dc_cli.specs.declared.outcome.Outcome.{Outcome}
 use Rattle.dc_cli.specs.declared.outcome.Outcome.TheVariants.{Done, Missing, TooLong, Malformed, ShelfFault, SinkFault, NoMemory}
 use Rattle.dc_cli.specs.declared.outcome.FileFault.TheVariants.{Transcript}
@@ -32,18 +32,6 @@ pub record Refused (bytes : List ℕ) (fault : TranscriptFault) : Type 0 where
   pub first_fault : transcript_of bytes ≡ Err fault
   pub no_transcript : IsNoTranscript bytes
 
--- the shelf was asked for the file alone and gave bytes, of which this holds
-pub record GaveBytes (file : List ℕ) (before after : ShelfState) (Holds : List ℕ → Type 0) : Type 0 where
-  pub bytes : List ℕ
-  pub read : Reads file transcript_limit before after (Ok bytes)
-  pub holds : Holds bytes
-
--- the outcome of a transcript's fault: the file is malformed, or there was no memory for its name
-abbrev pub TellsFault : List ℕ → TranscriptFault → Outcome → Type 0
-TellsFault file fault (Malformed name (Transcript seen)) = (name ≡ file) × (seen ≡ fault)
-TellsFault file fault NoMemory = Unit {0}
-TellsFault file fault _ = ⊥
-
 -- the words of the sums, or why there are none, by the bytes of the file
 abbrev pub SummedBytes : List ℕ → List ℕ → Result (List (List ℕ)) Outcome → Type 0
 SummedBytes file bytes (Ok words) = Summed bytes words
@@ -53,18 +41,18 @@ SummedBytes file bytes (Err _) = ⊥
 
 -- the words of the sums, or why there are none, by what the shelf did
 abbrev pub SummedFile : List ℕ → ShelfState → ShelfState → Result (List (List ℕ)) Outcome → Type 0
-SummedFile file before after (Ok words) = GaveBytes file before after (λ bytes. Summed bytes words)
+SummedFile file before after (Ok words) = GaveBytes file transcript_limit before after (λ bytes. Summed bytes words)
 SummedFile file before after (Err (Missing name)) = (name ≡ file) × Reads file transcript_limit before after (Err faults.Missing)
 SummedFile file before after (Err (TooLong name)) = (name ≡ file) × Reads file transcript_limit before after (Err faults.TooLong)
-SummedFile file before after (Err (Malformed name (Transcript fault))) = (name ≡ file) × GaveBytes file before after (λ bytes. Refused bytes fault)
+SummedFile file before after (Err (Malformed name (Transcript fault))) = (name ≡ file) × GaveBytes file transcript_limit before after (λ bytes. Refused bytes fault)
 SummedFile file before after (Err ShelfFault) = Reads file transcript_limit before after (Err faults.Failed)
-SummedFile file before after (Err NoMemory) = Unasked before after ⊎ GaveBytes file before after (λ bytes. Unit {0})
+SummedFile file before after (Err NoMemory) = Unasked before after ⊎ GaveBytes file transcript_limit before after (λ bytes. Unit {0})
 SummedFile file before after (Err _) = ⊥
 
 -- the sums of the file's transcript were put, and this is how the put ended
 pub record PutSums (file : List ℕ) (shelf shelf' : ShelfState) (out out' : SinkState) (ended : Result Unit Failed) : Type 0 where
   pub words : List (List ℕ)
-  pub summed : GaveBytes file shelf shelf' (λ bytes. Summed bytes words)
+  pub summed : GaveBytes file transcript_limit shelf shelf' (λ bytes. Summed bytes words)
   pub put : Puts (words_text words) out out' ended
 
 -- what `sum` did, by its outcome

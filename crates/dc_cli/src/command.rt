@@ -1,14 +1,24 @@
 //! The words of a command line as a command.
 
-ghost use Rattle.std.specs.Prelude.{◌≡◌};
-ghost use Rattle.dc_cli.specs.Forms.{texts, is_name as name_test};
-ghost use Rattle.dc_cli.specs.Commands.{ReadsAs, ReadsAsFile};
+ghost use Rattle.std.specs.Prelude.{◌≡◌, ◌∷◌};
+ghost use Rattle.dc_cli.specs.Forms.{texts, is_name as name_test, seed_in};
+ghost use Rattle.dc_cli.specs.Commands.{ReadsAs, ReadsAsFile, ReadsAsKeygen, ReadsAsNames};
+
+use dc_text::{Digits, decode_payload, payload_length};
 
 /// A command with its arguments.
 #[derive(Clone, Copy)]
 pub enum Command<'a> {
     /// Prints the superposed words of a transcript.
-    Sum { file: &'a str },
+    Sum {
+        file: &'a str,
+    },
+    /// Writes the key file that a seed generates for the net of a manifest.
+    Keygen {
+        seed: [u8; 32],
+        net: &'a str,
+        target: &'a str,
+    },
 }
 
 /// The command that the words spell, or how many words from the front begin a valid command line, at most.
@@ -16,7 +26,17 @@ pub fn command_of(words: &[String]) -> Result<Command<'_>, u32>
     ensures { ReadsAs (texts words.now) result }
 {
     match words {
-        [verb, rest @ ..] if verb.as_str() == "sum" => sum_of(rest),
+        [verb, rest @ ..] => command_with(verb.as_str(), rest),
+        _ => Err(0),
+    }
+}
+
+fn command_with<'a>(verb: &str, rest: &'a [String]) -> Result<Command<'a>, u32>
+    ensures { ReadsAs (verb.now ∷ texts rest.now) result }
+{
+    match verb {
+        "sum" => sum_of(rest),
+        "keygen" => keygen_of(rest),
         _ => Err(0),
     }
 }
@@ -31,6 +51,48 @@ fn sum_of(rest: &[String]) -> Result<Command<'_>, u32>
         [file, _, ..] if is_name(file.as_str()) => Err(2),
         _ => Err(1),
     }
+}
+
+fn keygen_of(rest: &[String]) -> Result<Command<'_>, u32>
+    ensures { ReadsAsKeygen (texts rest.now) result }
+{
+    match rest {
+        [digits, names @ ..] => match seed_of(digits.as_str()) {
+            Some(seed) => keygen_with(seed, names),
+            None => Err(1),
+        },
+        _ => Err(1),
+    }
+}
+
+fn keygen_with(seed: [u8; 32], names: &[String]) -> Result<Command<'_>, u32>
+    ensures { ReadsAsNames seed (texts names.now) result }
+{
+    match names {
+        [net, target] if is_name(net.as_str()) && is_name(target.as_str()) => {
+            Ok(Command::Keygen {
+                seed,
+                net: net.as_str(),
+                target: target.as_str(),
+            })
+        }
+        [net, target, _, ..] if is_name(net.as_str()) && is_name(target.as_str()) => Err(4),
+        [net, ..] if is_name(net.as_str()) => Err(3),
+        _ => Err(2),
+    }
+}
+
+/// The seed that a word spells in 64 lower-case hexadecimal digits.
+fn seed_of(word: &str) -> Option<[u8; 32]>
+    ensures { result ≡ seed_in word.now }
+{
+    let digits = word.as_bytes();
+    if payload_length(digits) != Some(32) {
+        return None;
+    }
+    let mut seed = [0u8; 32];
+    decode_payload(&Digits::new(), digits, &mut seed);
+    Some(seed)
 }
 
 /// Whether a word is a name: not empty, and not beginning with `-`.

@@ -4,6 +4,8 @@ ghost use Rattle.std.specs.Prelude.{◌≡◌};
 ghost use Rattle.dc_edge.specs.Sink.{Puts};
 ghost use Rattle.dc_cli.specs.Lines.{transcript_fault_text, file_fault_text, outcome_text, outcome_line, fault_line};
 
+use crate::key_fault::put_key_fault;
+use crate::manifest_fault::put_manifest_fault;
 use crate::outcome::{FileFault, Outcome};
 use crate::pieces::{put_named, put_number};
 use dc_edge::{Failed, Sink};
@@ -50,6 +52,8 @@ fn put_file_fault<E: Sink>(fault: &FileFault, err: &mut E) -> Result<(), Failed>
 {
     match fault {
         FileFault::Transcript(fault) => put_transcript_fault(fault, err),
+        FileFault::Keys(fault) => put_key_fault(fault, err),
+        FileFault::Manifest(fault) => put_manifest_fault(fault, err),
     }
 }
 

@@ -3,12 +3,16 @@
 
 mod command;
 mod fault_line;
+mod key_fault;
+mod keygen;
+mod manifest_fault;
 mod outcome;
 mod pieces;
 mod printing;
 mod reading;
 mod summing;
 mod top;
+mod writing;
 
 pub use fault_line::put_fault;
 pub use outcome::{FileFault, Outcome, status};

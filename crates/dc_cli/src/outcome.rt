@@ -4,13 +4,19 @@ ghost use Rattle.std.specs.Prelude.{◌≡◌};
 ghost use Rattle.dc_cli.specs.Outcomes.{status_of};
 
 use dc_field::Text;
+use dc_keyfile::KeyFault;
+use dc_manifest::ManifestFault;
 use dc_superpose::TranscriptFault;
 
-/// Why a file does not have the format that the command reads.
+/// Why the bytes of a file do not have the format that the command reads.
 #[derive(Debug, Drop)]
 pub enum FileFault {
     /// They are no transcript.
     Transcript(TranscriptFault),
+    /// They are no key file.
+    Keys(KeyFault),
+    /// They are no manifest.
+    Manifest(ManifestFault),
 }
 
 /// How a call ended. Each outcome but `Done` puts one line on the sink of faults.

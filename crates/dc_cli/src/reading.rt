@@ -1,8 +1,8 @@
-//! Reading one file.
+//! Reading one file, and the outcome of a fault in it.
 
-ghost use Rattle.dc_cli.specs.Reading.{ReadsFile};
+ghost use Rattle.dc_cli.specs.Reading.{ReadsFile, TellsFault};
 
-use crate::outcome::Outcome;
+use crate::outcome::{FileFault, Outcome};
 use dc_edge::{Shelf, ShelfFault};
 use dc_field::{Bytes, Text};
 use std::alloc::Global;
@@ -26,5 +26,15 @@ pub fn read_file<F: Shelf>(
         Err(ShelfFault::TooLong) => Err(Outcome::TooLong { name }),
         Err(ShelfFault::Failed) => Err(Outcome::ShelfFault),
         Err(ShelfFault::NoMemory) => Err(Outcome::NoMemory),
+    }
+}
+
+/// The outcome of a fault in a file.
+pub fn malformed(alloc: Global, file: &str, fault: FileFault) -> Outcome
+    ensures { TellsFault file.now fault result }
+{
+    match Text::copy_of(alloc, file) {
+        Ok(name) => Outcome::Malformed { name, fault },
+        Err(_) => Outcome::NoMemory,
     }
 }

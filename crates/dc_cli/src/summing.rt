@@ -1,13 +1,13 @@
 //! The command `sum`.
 
-ghost use Rattle.dc_cli.specs.Summing.{SumRan, SummedFile, SummedBytes, TellsFault};
+ghost use Rattle.dc_cli.specs.Summing.{SumRan, SummedFile, SummedBytes};
 
 use crate::outcome::{FileFault, Outcome};
 use crate::printing::put_words;
-use crate::reading::read_file;
+use crate::reading::{malformed, read_file};
 use dc_edge::{Shelf, Sink};
-use dc_field::{Refusal, TRANSCRIPT_LIMIT, Text, Words};
-use dc_superpose::{TranscriptFault, read_sums};
+use dc_field::{Refusal, TRANSCRIPT_LIMIT, Words};
+use dc_superpose::read_sums;
 use std::alloc::Global;
 
 /// Prints the superposed words of a transcript.
@@ -39,19 +39,6 @@ fn sums_of_bytes(alloc: Global, file: &str, bytes: &[u8]) -> Result<Words, Outco
     match read_sums(alloc, bytes) {
         Ok(words) => Ok(words),
         Err(Refusal::NoMemory) => Err(Outcome::NoMemory),
-        Err(Refusal::Bad(fault)) => Err(malformed(alloc, file, fault)),
-    }
-}
-
-/// The outcome of a fault in a transcript.
-fn malformed(alloc: Global, file: &str, fault: TranscriptFault) -> Outcome
-    ensures { TellsFault file.now fault result }
-{
-    match Text::copy_of(alloc, file) {
-        Ok(name) => Outcome::Malformed {
-            name,
-            fault: FileFault::Transcript(fault),
-        },
-        Err(_) => Outcome::NoMemory,
+        Err(Refusal::Bad(fault)) => Err(malformed(alloc, file, FileFault::Transcript(fault))),
     }
 }

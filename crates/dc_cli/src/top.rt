@@ -2,11 +2,12 @@
 
 ghost use Rattle.dc_cli.specs.Forms.{texts};
 ghost use Rattle.dc_cli.specs.Commands.{task_of};
-ghost use Rattle.dc_cli.specs.Promises.{call, RefusesOtherWords, PrintsSums, Completes, AsksInOrder, TellsTheLast, KeepsFiles, PrintsOnlyWhenDone, MissesTheAbsent, RefusesTheLong, RefusesTheMalformed, TellsTheFault, HasCauses};
+ghost use Rattle.dc_cli.specs.Promises.{call, RefusesOtherWords, PrintsSums, Completes, AsksInOrder, TellsTheLast, KeepsFiles, PrintsOnlyWhenDone, MissesTheAbsent, RefusesTheLong, RefusesTheMalformed, TellsTheFault, HasCauses, WritesKeys, RunsKeygen};
 ghost use Rattle.dc_cli.specs.Ran.{Ran, CommandRan, PutsLine};
 
 use crate::command::{Command, command_of};
 use crate::fault_line::put_fault;
+use crate::keygen::run_keygen;
 use crate::outcome::Outcome;
 use crate::summing::run_sum;
 use dc_edge::{Gate, Shelf, Sink};
@@ -51,6 +52,10 @@ pub fn dcnet<R: Threads + Sync, F: Shelf, K: Sink, E: Sink, G: Gate + Sync>(
         (call F.state K.state words.now shelf.old shelf.new out.old out.new result) }
     ensures causes { HasCauses
         (call F.state K.state words.now shelf.old shelf.new out.old out.new result) }
+    ensures keys { WritesKeys
+        (call F.state K.state words.now shelf.old shelf.new out.old out.new result) }
+    ensures keygen { RunsKeygen
+        (call F.state K.state words.now shelf.old shelf.new out.old out.new result) }
 {
     let outcome = run(alloc, words, shelf, out);
     let _ = put_fault(&outcome, err);
@@ -79,5 +84,6 @@ fn run_command<F: Shelf, K: Sink>(
 {
     match command {
         Command::Sum { file } => run_sum(alloc, file, shelf, out),
+        Command::Keygen { seed, net, target } => run_keygen(alloc, &seed, net, target, shelf),
     }
 }

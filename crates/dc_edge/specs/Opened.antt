@@ -1,9 +1,11 @@
--- Reading a file: which fault an error is, and what an opened file gives.
+-- Files: which fault an error is, and what an opened file gives.
 use Rattle.std.specs.Prelude.{ℕ, ◌≡◌, ◌<◌, List, length, Result, Ok, Err}
 use Rattle.std.specs.declared.io.ErrorKind.{ErrorKind}
 use Rattle.std.specs.declared.io.ErrorKind.TheVariants as kinds
 use Rattle.dc_edge.specs.declared.fault.ShelfFault.{ShelfFault}
 use Rattle.dc_edge.specs.declared.fault.ShelfFault.TheVariants.{Missing, TooLong, Failed, NoMemory}
+use Rattle.dc_edge.specs.declared.fault.WriteFault.{WriteFault}
+use Rattle.dc_edge.specs.declared.fault.WriteFault.TheVariants as writes
 
 -- the fault that an error of an opened file is
 abbrev pub fault_of_kind : ErrorKind → ShelfFault
@@ -14,6 +16,11 @@ fault_of_kind _ = Failed
 abbrev pub opening_fault : ErrorKind → ShelfFault
 opening_fault kinds.NotFound = Missing
 opening_fault kind = fault_of_kind kind
+
+-- the fault that an error of a write is
+abbrev pub write_fault_of_kind : ErrorKind → WriteFault
+write_fault_of_kind kinds.OutOfMemory = writes.NoMemory
+write_fault_of_kind _ = writes.Failed
 
 -- all bytes that were left, or that they are more than the limit; a read may also fail
 abbrev pub GivesRest : List ℕ → ℕ → Result (List ℕ) ShelfFault → Type 0

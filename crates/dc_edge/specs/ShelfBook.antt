@@ -1,10 +1,12 @@
--- What a shelf in memory keeps, and what hold and read do to it.
+-- What a shelf in memory keeps, and what hold, read and write do to it.
 use Rattle.std.specs.Prelude.{ℕ, ◌+◌, ◌-◌, ◌^◌, ◌≡◌, ◌==◌, min, if◌then◌else◌, nat_le, List, [], ◌∷◌, ◌++◌, length, Option, Some, None, Result, Ok, Err}
 use Rattle.std.specs.List.{list_any}
 use Rattle.std.specs.Str.{bytes_eq}
 use Rattle.dc_spec.specs.Outside.{Holding, absent, held, ShelfState}
 use Rattle.dc_edge.specs.declared.fault.ShelfFault.{ShelfFault}
 use Rattle.dc_edge.specs.declared.fault.ShelfFault.TheVariants.{Missing, TooLong, Failed, NoMemory}
+use Rattle.dc_edge.specs.declared.fault.WriteFault.{WriteFault}
+use Rattle.dc_edge.specs.declared.fault.WriteFault.TheVariants as writes
 
 -- the names with their bytes, the last one held first; the names asked for; the numbers of the calls that fail; the calls and the faults so far
 pub record ShelfBook : Type 0 where
@@ -55,3 +57,14 @@ read_of book name limit =
 abbrev pub ReadsBook : List ℕ → ℕ → ShelfBook → ShelfBook → Result (List ℕ) ShelfFault → Type 0
 ReadsBook name limit book now (Err NoMemory) = now ≡ book
 ReadsBook name limit book now result = (now, result) ≡ read_of book name limit
+
+-- the book after a write, and the answer: a call that is to fail changes no file, else the bytes are held under the name
+abbrev pub write_of : ShelfBook → List ℕ → List ℕ → ShelfBook × Result Unit WriteFault
+write_of book name bytes =
+    if list_any (λ n. n == book.calls) book.fails then (failed_book_asked book name, Err writes.Failed)
+    else (book_asked (book_holding book name bytes) name, Ok tt)
+
+-- a write does what write_of says, or nothing where memory ran out
+abbrev pub WritesBook : List ℕ → List ℕ → ShelfBook → ShelfBook → Result Unit WriteFault → Type 0
+WritesBook name bytes book now (Err writes.NoMemory) = now ≡ book
+WritesBook name bytes book now result = (now, result) ≡ write_of book name bytes

@@ -5,7 +5,8 @@ ghost use Rattle.std.specs.IoError.{error_kind};
 ghost use Rattle.dc_edge.specs.Opened.{opening_fault};
 ghost use Rattle.dc_edge.specs.Untold.{untold_shelf};
 
-use crate::fault::ShelfFault;
+use crate::beside::replace_file;
+use crate::fault::{ShelfFault, WriteFault};
 use crate::opened::{fault_of, read_rest};
 use crate::shelf::Shelf;
 use dc_field::Bytes;
@@ -42,6 +43,15 @@ impl<R: Files> Shelf for DirShelf<R> {
         match &answer {
             Ok(_) | Err(ShelfFault::NoMemory) => {}
             Err(_) => self.fault_count = self.fault_count.saturating_add(1),
+        }
+        answer
+    }
+
+    /// A reader of the file sees all former bytes or all new ones. Where the write fails, the former bytes stay.
+    fn write(&mut self, alloc: Global, name: &str, bytes: &[u8]) -> Result<(), WriteFault> {
+        let answer = replace_file(&self.files, alloc, name, bytes);
+        if let Err(WriteFault::Failed) = answer {
+            self.fault_count = self.fault_count.saturating_add(1);
         }
         answer
     }

@@ -2,6 +2,7 @@
 
 ghost use Rattle.std.specs.Prelude.{◌≡◌};
 ghost use Rattle.dc_edge.specs.declared.fault.ShelfFault.TheVariants.{NoMemory as no_memory};
+ghost use Rattle.dc_edge.specs.declared.fault.WriteFault.TheVariants.{NoMemory as write_no_memory};
 
 use std::alloc::{AllocError, AllocFailed};
 use thiserror::Error;
@@ -40,5 +41,32 @@ impl<T: Drop> From<AllocFailed<T>> for ShelfFault {
 
     fn from(_e: AllocFailed<T>) -> ShelfFault {
         ShelfFault::NoMemory
+    }
+}
+
+/// Why a shelf did not write a file.
+#[derive(Clone, Copy, Debug, PartialEq, Eq, Error)]
+pub enum WriteFault {
+    /// The shelf failed. The name may hold anything from here on.
+    #[error("file fault")]
+    Failed,
+    /// Memory ran out, and nothing was written.
+    #[error("no memory")]
+    NoMemory,
+}
+
+impl From<AllocError> for WriteFault {
+    ghost from_gives = { λ _ e. e ≡ write_no_memory };
+
+    fn from(_e: AllocError) -> WriteFault {
+        WriteFault::NoMemory
+    }
+}
+
+impl<T: Drop> From<AllocFailed<T>> for WriteFault {
+    ghost from_gives = { λ _ e. e ≡ write_no_memory };
+
+    fn from(_e: AllocFailed<T>) -> WriteFault {
+        WriteFault::NoMemory
     }
 }

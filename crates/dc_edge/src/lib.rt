@@ -1,6 +1,7 @@
 //! The outside as the program sees it: a shelf of files, a sink of bytes, a gate; in memory and over std.
 #![tactic(auto)]
 
+mod beside;
 mod dir_shelf;
 mod fault;
 mod gate;
@@ -12,7 +13,7 @@ mod sink;
 mod std_sink;
 
 pub use dir_shelf::DirShelf;
-pub use fault::{Failed, ShelfFault};
+pub use fault::{Failed, ShelfFault, WriteFault};
 pub use gate::{Gate, OpenGate};
 pub use memory_shelf::MemoryShelf;
 pub use memory_sink::MemorySink;

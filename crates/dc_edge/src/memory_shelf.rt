@@ -2,10 +2,10 @@
 
 ghost use Rattle.std.specs.Prelude.{◌≡◌, [], IfOk, OnErr, OnOk};
 ghost use Rattle.std.specs.Option.{option_copied};
-ghost use Rattle.dc_edge.specs.ShelfBook.{shelf_state, book_holding, held_bytes, answer_of, ReadsBook};
-ghost use Rattle.dc_edge.specs.Shelf.{Reads};
+ghost use Rattle.dc_edge.specs.ShelfBook.{shelf_state, book_holding, held_bytes, answer_of, ReadsBook, WritesBook};
+ghost use Rattle.dc_edge.specs.Shelf.{Reads, Writes};
 
-use crate::fault::ShelfFault;
+use crate::fault::{ShelfFault, WriteFault};
 use crate::shelf::Shelf;
 use dc_field::{Bytes, NoMemory, Text};
 use std::alloc::{AllocError, Global};
@@ -27,7 +27,7 @@ impl Model for HeldFile {
 }
 
 /// A shelf that holds the files that it is given, and that fails at chosen calls.
-/// Calls of `read` are numbered from 0; the number stays at 2^32 - 1 once there.
+/// Calls of `read` and `write` are numbered from 0; the number stays at 2^32 - 1 once there.
 #[derive(Drop)]
 pub struct MemoryShelf {
     held: Vec<HeldFile>,
@@ -90,6 +90,30 @@ impl Shelf for MemoryShelf {
             return Err(ShelfFault::Failed);
         }
         answer
+    }
+
+    /// Takes its memory first, so that all stays as it was where memory runs out. A call that fails changes no file.
+    fn write(&mut self, alloc: Global, name: &str, bytes: &[u8]) -> Result<(), WriteFault>
+        ensures exact { WritesBook name.now bytes.now self.old self.new result }
+        ensures writes { Writes name.now bytes.now (shelf_state self.old) (shelf_state self.new) result }
+    {
+        let file = HeldFile {
+            name: Text::from_string(String::from_str(alloc, name)?),
+            bytes: Bytes::from_vec(Vec::from_slice(alloc, bytes)?),
+        };
+        let asked = Text::from_string(String::from_str(alloc, name)?);
+        self.names.reserve(1)?;
+        let fails = self.failing.contains(&self.call);
+        if !fails {
+            self.held.insert(0, file)?;
+        }
+        self.names.push_reserved(asked);
+        self.call = self.call.saturating_add(1);
+        if fails {
+            self.fault_count = self.fault_count.saturating_add(1);
+            return Err(WriteFault::Failed);
+        }
+        Ok(())
     }
 }
 

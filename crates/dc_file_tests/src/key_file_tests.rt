@@ -5,9 +5,10 @@ use dc_keyfile::{KeyFault, element, generate, key_bytes, read_keys};
 use dc_keys::KeyFile;
 use std::process::Abort;
 use std::test::*;
+use std::thread::Threads;
 
-fn refused<R: AllocGlobal + Abort>(rt: &R, b: &[u8], due: KeyFault) {
-    assert_eq!(rt; fault_of(rt, read_keys(rt.alloc(), b)), Some(due));
+fn refused<R: Threads + Sync + AllocGlobal + Abort>(rt: &R, b: &[u8], due: KeyFault) {
+    assert_eq!(rt; fault_of(rt, read_keys(rt, rt.alloc(), b)), Some(due));
 }
 
 /// The generated keys of the edges (0, 1), (0, 2), (1, 2), for the base of zeros.
@@ -26,7 +27,7 @@ fn triangle_file<R: AllocGlobal + Abort>(rt: &R) -> Bytes {
 }
 
 /// This file, with two bytes replaced, is refused.
-fn altered_refused<R: AllocGlobal + Abort>(
+fn altered_refused<R: Threads + Sync + AllocGlobal + Abort>(
     rt: &R,
     file: &Bytes,
     one: (usize, u8),
@@ -44,7 +45,7 @@ fn altered_refused<R: AllocGlobal + Abort>(
 }
 
 /// The first bytes of this file are refused.
-fn cut_refused<R: AllocGlobal + Abort>(rt: &R, file: &Bytes, length: usize, need: u64) {
+fn cut_refused<R: Threads + Sync + AllocGlobal + Abort>(rt: &R, file: &Bytes, length: usize, need: u64) {
     let front = done(rt, file.as_slice().get(..length).ok_or("it is long enough"));
     let at = length as u64;
     refused(rt, front, KeyFault::Truncated { at, need });
@@ -76,7 +77,7 @@ fn keys_of_a_triangle(rt: HostRuntime) {
     pair_is(&rt, &keys, 2, 1, 2);
     let bytes = done(&rt, key_bytes(rt.alloc(), &keys));
     assert_eq!(rt; bytes.as_slice().len(), 1944);
-    let read = done(&rt, read_keys(rt.alloc(), bytes.as_slice()));
+    let read = done(&rt, read_keys(&rt, rt.alloc(), bytes.as_slice()));
     let again = done(&rt, key_bytes(rt.alloc(), &read));
     assert_eq!(rt; again.as_slice(), bytes.as_slice());
 }
@@ -84,7 +85,7 @@ fn keys_of_a_triangle(rt: HostRuntime) {
 #[test]
 fn heads(rt: HostRuntime) {
     let no_pairs = b"DCK\x01\x00\x01\x00\x01\x00\x00\x00\x00";
-    assert_eq!(rt; fault_of(&rt, read_keys(rt.alloc(), no_pairs)), None);
+    assert_eq!(rt; fault_of(&rt, read_keys(&rt, rt.alloc(), no_pairs)), None);
     let need = 12;
     refused(&rt, b"", KeyFault::Truncated { at: 0, need });
     refused(
@@ -92,8 +93,8 @@ fn heads(rt: HostRuntime) {
         b"\x01\x00\x01\x03",
         KeyFault::Truncated { at: 4, need },
     );
-    let file = b"DCK\x02\x00\x00\x00\x00\x00\x00\x00\x00";
-    refused(&rt, file, KeyFault::Version { seen: 2 });
+    let file = b"DCK\x03\x00\x00\x00\x00\x00\x00\x00\x00";
+    refused(&rt, file, KeyFault::Version { seen: 3 });
     let file = b"DCK\x01\x5f\x01\x00\x02\x00\x00\x00\x00";
     refused(&rt, file, KeyFault::Stations { seen: 24321 });
     let file = b"DCK\x01\x00\x00\x00\x00\x00\x00\x00\x00";

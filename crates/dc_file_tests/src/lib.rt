@@ -10,6 +10,8 @@ mod key_file_tests;
 #[cfg(test)]
 mod script_tests;
 #[cfg(test)]
+mod seed_file_tests;
+#[cfg(test)]
 mod stream_tests;
 #[cfg(test)]
 mod text_tests;

@@ -7,12 +7,13 @@ use Rattle.std.proofs.lemmas.List.{append_assoc}
 use Rattle.dc_spec.specs.Words.{IsWord, IsSymbol}
 use Rattle.dc_spec.specs.Bytes.{symbol_bytes, word_bytes}
 use Rattle.dc_spec.specs.Recorded.{Recorded, IsRecorded, transcript_bytes}
-use Rattle.dc_spec.specs.Pads.{Pair, Keys}
+use Rattle.dc_spec.specs.Pads.{Pair, Keys, Seeds}
 use Rattle.dc_formats.specs.KeyFile.{pair_bytes, keys_bytes, IsPair, IsKeys}
+use Rattle.dc_formats.specs.SeedFile.{seed_pair_bytes, seeds_bytes, IsSeedPair, IsSeeds}
 use Rattle.dc_spec.specs.Frames.{Frame, hello, send, all}
 use Rattle.dc_formats.specs.Frames.{frame_bytes, frames_bytes, IsFrame}
 use Rattle.dc_formats.proofs.Readable.{IsReadable, without_rest, read_counted, read_until}
-use Rattle.dc_formats.proofs.Pieces.{read_short, read_number, read_symbol, read_word}
+use Rattle.dc_formats.proofs.Pieces.{read_front, read_short, read_number, read_symbol, read_word}
 
 -- two numbers, then as many words as they say
 pub transcript_tells : (x y : Recorded) → IsRecorded x → IsRecorded y → transcript_bytes x ≡ transcript_bytes y → x ≡ y
@@ -66,6 +67,38 @@ keys_tell x y p q e =
     (few_pairs y q) words.1 in
     let theirs : All (IsPair x.stations x.words) y.pairs = rw (stations.0, words.0) q.are_pairs in
     let pairs : x.pairs ≡ y.pairs = (read_counted (IsPair x.stations x.words) pair_bytes (read_pair x.stations x.words p.most_stations) x.pairs y.pairs [] [] p.are_pairs theirs count.0
+    (without_rest _ _ count.1)).0 in
+    λ i. record { stations = stations.0 i; words = words.0 i; pairs = pairs i }
+
+-- a pair with its seed, in a file of so many stations
+read_seed_pair : (n : ℕ) → n ≤ 256 → IsReadable (IsSeedPair n) seed_pair_bytes
+read_seed_pair n small x y r s p q e =
+    let apart : to_be_bytes w16 x.u ++ (to_be_bytes w16 x.v ++ (x.seed ++ r)) ≡ to_be_bytes w16 y.u ++ (to_be_bytes w16 y.v ++ (y.seed ++ s)) = e in
+    let lesser : (x.u ≡ y.u) × (to_be_bytes w16 x.v ++ (x.seed ++ r) ≡ to_be_bytes w16 y.v ++ (y.seed ++ s)) =
+    read_short x.u y.u _ _ (omega (arith, p.ends, p.within)) (omega (arith, q.ends, q.within)) apart in
+    let greater : (x.v ≡ y.v) × (x.seed ++ r ≡ y.seed ++ s) = read_short x.v y.v _ _ (omega (arith, p.within)) (omega (arith, q.within)) lesser.1 in
+    let seed : (x.seed ≡ y.seed) × (r ≡ s) = read_front x.seed y.seed r s (p.seed_length ∙ sym q.seed_length) greater.1 in
+    ((λ i. record { u = lesser.0 i; v = greater.0 i; seed = seed.0 i }), seed.1)
+
+-- a file of seeds with at least one word has fewer than 2^32 pairs
+pub few_seeds : (f : Seeds) → IsSeeds f → length f.pairs < 2 ^ 32
+few_seeds f is =
+    let more : length f.pairs ≤ length f.pairs * (32 * f.words) = le-mul_of_pos_right (length f.pairs) (omega (arith, is.some_words)) in
+    omega (arith, is.most_symbols)
+
+-- three numbers, then as many pairs as the last says
+pub seeds_tell : (x y : Seeds) → IsSeeds x → IsSeeds y → seeds_bytes x ≡ seeds_bytes y → x ≡ y
+seeds_tell x y p q e =
+    let apart : to_be_bytes w16 x.stations ++ (to_be_bytes w16 x.words ++ (to_be_bytes w32 (length x.pairs) ++ flat_map seed_pair_bytes x.pairs)) ≡ to_be_bytes w16 y.stations ++ (to_be_bytes w16 y.words
+    ++ (to_be_bytes w32 (length y.pairs) ++ flat_map seed_pair_bytes y.pairs)) = cc in
+    let stations : (x.stations ≡ y.stations) × (to_be_bytes w16 x.words ++ (to_be_bytes w32 (length x.pairs) ++ flat_map seed_pair_bytes x.pairs) ≡ to_be_bytes w16 y.words
+    ++ (to_be_bytes w32 (length y.pairs) ++ flat_map seed_pair_bytes y.pairs)) = read_short x.stations y.stations _ _ (omega arith) (omega arith) apart in
+    let words : (x.words ≡ y.words) × (to_be_bytes w32 (length x.pairs) ++ flat_map seed_pair_bytes x.pairs ≡ to_be_bytes w32 (length y.pairs) ++ flat_map seed_pair_bytes y.pairs) =
+    read_short x.words y.words _ _ (omega arith) (omega arith) stations.1 in
+    let count : (length x.pairs ≡ length y.pairs) × (flat_map seed_pair_bytes x.pairs ≡ flat_map seed_pair_bytes y.pairs) = read_number (length x.pairs) (length y.pairs) _ _ (few_seeds x p)
+    (few_seeds y q) words.1 in
+    let theirs : All (IsSeedPair x.stations) y.pairs = rw stations.0 q.are_pairs in
+    let pairs : x.pairs ≡ y.pairs = (read_counted (IsSeedPair x.stations) seed_pair_bytes (read_seed_pair x.stations p.most_stations) x.pairs y.pairs [] [] p.are_pairs theirs count.0
     (without_rest _ _ count.1)).0 in
     λ i. record { stations = stations.0 i; words = words.0 i; pairs = pairs i }
 

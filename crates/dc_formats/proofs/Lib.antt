@@ -1,3 +1,4 @@
+pub mod Ends
 pub mod FileLines
 pub mod Readable
 pub mod Pieces

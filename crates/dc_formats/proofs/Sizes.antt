@@ -1,9 +1,8 @@
 -- How long the files of contents within the limits can be.
-use Rattle.std.proofs.Common.{◌≡◌, ℕ, ◌+◌, ◌*◌, ◌^◌, ◌<◌, ◌≤◌, zero, suc, List, [], ◌∷◌, ◌++◌, length, All, sym, add-one, ◌∙◌, ap, lit≤, inl, inr, slice_index_or, codes, arith}
+use Rattle.std.proofs.Common.{◌≡◌, ℕ, ◌+◌, ◌*◌, ◌^◌, ◌<◌, ◌≤◌, List, [], ◌∷◌, ◌++◌, length, All, ◌∙◌, ap, lit≤, codes, arith}
 use Rattle.std.specs.List.{flat_map}
 use Rattle.std.specs.Fmt.{decimal}
 use Rattle.std.proofs.Math.Nat.{mul-le-mul}
-use Rattle.std.proofs.lemmas.Bool.{cases_lt}
 use Rattle.std.proofs.lemmas.List.{length-append}
 use Rattle.std.proofs.lemmas.List.Concat.{length-flat_map}
 use Rattle.std.proofs.lemmas.List.Elements.{All-weaker}
@@ -14,10 +13,12 @@ use Rattle.dc_spec.specs.Words.{IsWord}
 use Rattle.dc_spec.specs.Bytes.{symbol_bytes, word_bytes}
 use Rattle.dc_spec.specs.Text.{symbol_text, word_text, line}
 use Rattle.dc_spec.specs.Recorded.{Recorded, IsRecorded, transcript_bytes}
-use Rattle.dc_spec.specs.Pads.{Pair, Keys}
+use Rattle.dc_spec.specs.Pads.{Pair, Keys, SeedPair, Seeds}
 use Rattle.dc_spec.specs.Entries.{Stream}
 use Rattle.dc_formats.specs.TextFile.{byte_text, hex_text}
-use Rattle.dc_formats.specs.KeyFile.{pair_bytes, keys_bytes, IsPair, IsPairBefore, ArePairsRising, IsKeys}
+use Rattle.dc_formats.specs.KeyFile.{pair_bytes, keys_bytes, IsPair, IsKeys}
+use Rattle.dc_formats.specs.SeedFile.{seed_pair_bytes, seeds_bytes, IsSeedPair, IsSeeds}
+use Rattle.dc_formats.proofs.Ends.{items_count}
 use Rattle.dc_spec.specs.Values.{IsValue}
 use Rattle.dc_formats.specs.StreamFile.{short_line, long_line, coin_line, stream_text, IsMessage, IsStream}
 use Rattle.dc_formats.specs.ListFiles.{images_text, AreImages, wanted_text, AreWanted}
@@ -50,35 +51,6 @@ transcript_short t is =
 pub transcript_size : (t : Recorded) → IsRecorded t → length (transcript_bytes t) ≤ limit.transcript_limit
 transcript_size t is = let short = transcript_short t is in omega arith
 
--- a pair's place in the order of all pairs
-abbrev place_of : Pair → ℕ
-place_of p = p.u * 256 + p.v
-
--- a later pair has a later place
-place_rises : (n t : ℕ) (p q : Pair) → n ≤ 256 → IsPair n t p → IsPair n t q → IsPairBefore p q → place_of p < place_of q
-place_rises n t p q small is is' before =
-    elim (cases_lt p.u q.u) [
-      | inl less ↦ omega arith
-      | inr ge ↦ let same : p.u ≡ q.u = omega arith in let rises : p.v < q.v = before.greater same in omega arith
-    ]
-
--- before a pair stand at most as many as its place tells
-place_bounds : (n t : ℕ) (pairs : List Pair) → n ≤ 256 → All (IsPair n t) pairs → ArePairsRising pairs → (d : Pair) (i : ℕ) → i < length pairs → i ≤ place_of (slice_index_or pairs i d)
-place_bounds n t pairs small are rising d zero lt = omega arith
-place_bounds n t pairs small are rising d (suc i) lt =
-    let here : i + 1 < length pairs = omega arith in
-    let before : i ≤ place_of (slice_index_or pairs i d) = place_bounds n t pairs small are rising d i (omega arith) in
-    let rises : place_of (slice_index_or pairs i d) < place_of (slice_index_or pairs (i + 1) d) = place_rises n t _ _ small (are i d (omega arith)) (are (i + 1) d here) (rising i d here) in
-    rw (sym (add-one i)) (omega arith)
-
--- there are at most 65536 pairs
-pair_count : (n t : ℕ) (pairs : List Pair) → n ≤ 256 → All (IsPair n t) pairs → ArePairsRising pairs → length pairs ≤ 65536
-pair_count n t [] small are rising = lit≤ tt
-pair_count n t (p ∷ ps) small are rising =
-    let last : IsPair n t (slice_index_or (p ∷ ps) (length ps) p) = are (length ps) p (omega arith) in
-    let bound : length ps ≤ place_of (slice_index_or (p ∷ ps) (length ps) p) = place_bounds n t (p ∷ ps) small are rising p (length ps) (omega arith) in
-    omega (arith, last.ends, last.within)
-
 -- a pair's bytes
 pair_size : (n t : ℕ) (p : Pair) → IsPair n t p → length (pair_bytes p) ≤ 4 + 128 * t
 pair_size n t p is =
@@ -99,10 +71,22 @@ pub keys_size : (k : Keys) → IsKeys k → length (keys_bytes k) ≤ limit.key_
 keys_size k is =
     let pairs : length (flat_map pair_bytes k.pairs) ≤ length k.pairs * (4 + 128 * k.words) = length_within (IsPair k.stations k.words) pair_bytes (4 + 128 * k.words)
     (pair_size k.stations k.words) k.pairs is.are_pairs in
-    let count : length k.pairs ≤ 65536 = pair_count k.stations k.words k.pairs is.most_stations is.are_pairs is.rising in
+    let count : length k.pairs ≤ 65536 = items_count k.stations k.pairs (λ p. (p.u, p.v)) is.most_stations (λ i d lt. let pair = is.are_pairs i d lt in (pair.ends, pair.within)) is.rising in
     let whole : length (keys_bytes k) ≡ 12 + length (flat_map pair_bytes k.pairs) = omega arith in
     let most : length k.pairs * (32 * k.words) ≤ 2 ^ 26 = is.most_symbols in
     let apart : length k.pairs * (4 + 128 * k.words) ≡ 4 * length k.pairs + 4 * (length k.pairs * (32 * k.words)) = spread (length k.pairs) k.words in
+    omega arith
+
+-- a pair's bytes
+seed_pair_size : (n : ℕ) (p : SeedPair) → IsSeedPair n p → length (seed_pair_bytes p) ≤ 36
+seed_pair_size n p is = omega (arith, is.seed_length)
+
+-- a head of twelve bytes and at most 65536 pairs
+pub seeds_size : (f : Seeds) → IsSeeds f → length (seeds_bytes f) ≤ limit.key_file_limit
+seeds_size f is =
+    let pairs : length (flat_map seed_pair_bytes f.pairs) ≤ length f.pairs * 36 = length_within (IsSeedPair f.stations) seed_pair_bytes 36 (seed_pair_size f.stations) f.pairs is.are_pairs in
+    let count : length f.pairs ≤ 65536 = items_count f.stations f.pairs (λ p. (p.u, p.v)) is.most_stations (λ i d lt. let pair = is.are_pairs i d lt in (pair.ends, pair.within)) is.rising in
+    let whole : length (seeds_bytes f) ≡ 12 + length (flat_map seed_pair_bytes f.pairs) = omega arith in
     omega arith
 
 -- a line is one byte longer than its text

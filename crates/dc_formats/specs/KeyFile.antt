@@ -1,6 +1,6 @@
 -- Key files, version 1: a head of twelve bytes, then for each pair its two stations and its pads,
 -- four bytes a symbol.
-use Rattle.std.specs.Prelude.{ℕ, ◌+◌, ◌*◌, ◌<◌, ◌≤◌, ◌≡◌, List, [], ◌∷◌, ◌++◌, length, slice_index, slice_index_or, All, codes}
+use Rattle.std.specs.Prelude.{ℕ, ◌+◌, ◌*◌, ◌<◌, ◌≤◌, ◌≡◌, List, [], ◌∷◌, ◌++◌, length, map, slice_index, slice_index_or, All, codes}
 use Rattle.std.specs.List.{flat_map}
 use Rattle.std.specs.Int.{w16, w32, to_be_bytes}
 use Rattle.dc_spec.specs.Limits as limit
@@ -32,15 +32,15 @@ pub record IsPair (stations words : ℕ) (p : Pair) : Type 0 where
   pub no_first : slice_index p.b 0 ≡ 0
 
 -- the lesser end is less, or it is the same and the greater end is less
-pub record IsPairBefore (p q : Pair) : Type 0 where
-  pub lesser : p.u ≤ q.u
-  pub greater : p.u ≡ q.u → p.v < q.v
+pub record AreEndsBefore (e f : ℕ × ℕ) : Type 0 where
+  pub lesser : e.0 ≤ f.0
+  pub greater : e.0 ≡ f.0 → e.1 < f.1
 
--- the pairs are in order, and none is there twice
-abbrev pub ArePairsRising : List Pair → Type 0
-ArePairsRising ps =
-    (i : ℕ) (d : Pair) → i + 1 < length ps
-    → IsPairBefore (slice_index_or ps i d) (slice_index_or ps (i + 1) d)
+-- the ends of pairs are in order, and none are there twice
+abbrev pub AreEndsRising : List (ℕ × ℕ) → Type 0
+AreEndsRising es =
+    (i : ℕ) (d : ℕ × ℕ) → i + 1 < length es
+    → AreEndsBefore (slice_index_or es i d) (slice_index_or es (i + 1) d)
 
 -- at least one station and one word, no more than the limits of stations, words and pads, and pairs
 -- in order
@@ -51,4 +51,4 @@ pub record IsKeys (k : Keys) : Type 0 where
   pub most_words : k.words ≤ limit.most_words
   pub most_symbols : length k.pairs * (32 * k.words) ≤ limit.most_pads
   pub are_pairs : All (IsPair k.stations k.words) k.pairs
-  pub rising : ArePairsRising k.pairs
+  pub rising : AreEndsRising (map (λ p. (p.u, p.v)) k.pairs)

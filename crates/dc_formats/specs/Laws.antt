@@ -7,6 +7,7 @@ use Rattle.dc_spec.specs.Scripts.{delivered_words, stations_of, Turn, Script}
 use Rattle.dc_spec.specs.Recorded.{IsRecorded, transcript_bytes}
 use Rattle.dc_formats.specs.TextFile.{IsTextLine, IsTextFile, text_file, ended, file_lines}
 use Rattle.dc_formats.specs.KeyFile.{IsKeys, keys_bytes}
+use Rattle.dc_formats.specs.SeedFile.{IsSeeds, seeds_bytes}
 use Rattle.dc_formats.specs.StreamFile.{IsStream, stream_text}
 use Rattle.dc_formats.specs.ScriptFile.{IsScript, script_text}
 use Rattle.dc_formats.specs.ListFiles.{AreImages, images_text, AreWanted, wanted_text}
@@ -28,6 +29,10 @@ TranscriptsTellContent = TellsContent IsRecorded transcript_bytes
 -- of a key file
 abbrev pub KeyFilesTellContent : Type 0
 KeyFilesTellContent = TellsContent IsKeys keys_bytes
+
+-- of a key file of seeds
+abbrev pub SeedFilesTellContent : Type 0
+SeedFilesTellContent = TellsContent IsSeeds seeds_bytes
 
 -- of a stream
 abbrev pub StreamsTellContent : Type 0
@@ -85,6 +90,10 @@ TranscriptsAreWithin = IsWithin limit.transcript_limit IsRecorded transcript_byt
 -- and key files
 abbrev pub KeyFilesAreWithin : Type 0
 KeyFilesAreWithin = IsWithin limit.key_file_limit IsKeys keys_bytes
+
+-- and key files of seeds
+abbrev pub SeedFilesAreWithin : Type 0
+SeedFilesAreWithin = IsWithin limit.key_file_limit IsSeeds seeds_bytes
 
 -- and streams
 abbrev pub StreamsAreWithin : Type 0

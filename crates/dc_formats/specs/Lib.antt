@@ -1,5 +1,6 @@
 pub mod Frames
 pub mod KeyFile
+pub mod SeedFile
 pub mod ListFiles
 pub mod TextFile
 pub mod StreamFile

@@ -1,6 +1,6 @@
 //! Laws of the formats. These functions do nothing: each one's contract is a law that callers get by a call.
 
-ghost use Rattle.dc_formats.specs.Laws.{TextFilesTellLines, TranscriptsTellContent, KeyFilesTellContent, StreamsTellContent, ScriptsTellContent, ImagesTellContent, WantedWordsTellContent, FramesTellContent, StreamsAreText, ScriptsAreText, ImagesAreText, WantedWordsAreText, TranscriptsAreShort, TranscriptsAreWithin, KeyFilesAreWithin, StreamsAreWithin, ScriptsAreWithin, ImagesAreWithin, WantedWordsAreWithin, TextFilesHaveLines, EndedLinesAreFile};
+ghost use Rattle.dc_formats.specs.Laws.{TextFilesTellLines, TranscriptsTellContent, KeyFilesTellContent, SeedFilesTellContent, StreamsTellContent, ScriptsTellContent, ImagesTellContent, WantedWordsTellContent, FramesTellContent, StreamsAreText, ScriptsAreText, ImagesAreText, WantedWordsAreText, TranscriptsAreShort, TranscriptsAreWithin, KeyFilesAreWithin, SeedFilesAreWithin, StreamsAreWithin, ScriptsAreWithin, ImagesAreWithin, WantedWordsAreWithin, TextFilesHaveLines, EndedLinesAreFile};
 
 /// A text file can be cut into lines in one way.
 #[tactic(auto, using(crate::proofs::TextLaws::lines_tell))]
@@ -25,6 +25,12 @@ pub fn transcripts_tell_content()
 #[tactic(auto, using(crate::proofs::BinaryLaws::keys_tell))]
 pub fn key_files_tell_content()
     ensures { KeyFilesTellContent }
+{}
+
+/// The bytes of a key file of seeds tell the numbers of stations and words, the pairs and their seeds.
+#[tactic(auto, using(crate::proofs::BinaryLaws::seeds_tell))]
+pub fn seed_files_tell_content()
+    ensures { SeedFilesTellContent }
 {}
 
 /// The bytes of a stream file tell its shorts, longs and coins.
@@ -69,10 +75,11 @@ pub fn spelled_texts_are_text_files()
 
 /// No file of these formats is longer than its read limit, a script where a net can have its
 /// rounds. A transcript has at most half of its limit and eight bytes.
-#[tactic(auto, using(crate::proofs::Sizes::transcript_size, crate::proofs::Sizes::keys_size, crate::proofs::Sizes::stream_size, crate::proofs::ScriptSizes::script_size, crate::proofs::Sizes::images_size, crate::proofs::Sizes::wanted_size, crate::proofs::Sizes::transcript_short))]
+#[tactic(auto, using(crate::proofs::Sizes::transcript_size, crate::proofs::Sizes::keys_size, crate::proofs::Sizes::seeds_size, crate::proofs::Sizes::stream_size, crate::proofs::ScriptSizes::script_size, crate::proofs::Sizes::images_size, crate::proofs::Sizes::wanted_size, crate::proofs::Sizes::transcript_short))]
 pub fn spelled_files_are_within_limits()
     ensures transcripts { TranscriptsAreWithin }
     ensures key_files { KeyFilesAreWithin }
+    ensures seed_files { SeedFilesAreWithin }
     ensures streams { StreamsAreWithin }
     ensures scripts { ScriptsAreWithin }
     ensures images { ImagesAreWithin }

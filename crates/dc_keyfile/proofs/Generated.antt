@@ -12,6 +12,7 @@ use Rattle.rand_chacha.specs.ChaCha.{ChaCha, key_of, of_seed}
 use Rattle.dc_spec.specs.Words.{IsSymbol}
 use Rattle.dc_spec.specs.Pads.{Pair}
 use Rattle.dc_formats.specs.KeyFile.{IsPair, IsKeys}
+use Rattle.dc_formats.proofs.Ends.{ends_rise}
 use Rattle.dc_graph.specs.Graph.{PlainGraph, IsEdge, IsGraph}
 use Rattle.dc_keys.specs.Pads.{IsPairKey}
 use Rattle.dc_keyfile.specs.Generator.{pair_seed, generated_symbol, element_at, generated_pair, generated_keys}
@@ -36,7 +37,7 @@ one_symbol_more start now n x symbols more stands so_far here pushed =
 -- ---- the pads of a pair
 
 -- the symbol so many places on is the element with that number
-symbol_is_element : (base : List ℕ) (u v from n e : ℕ) → from + 2 * n ≡ 2 * e → generated_symbol (key_of (pair_seed base u v)) (from + 2 * n) ≡ element_at base u v e
+pub symbol_is_element : (base : List ℕ) (u v from n e : ℕ) → from + 2 * n ≡ 2 * e → generated_symbol (key_of (pair_seed base u v)) (from + 2 * n) ≡ element_at base u v e
 unfolding element_at
 symbol_is_element base u v from n e is = ap (generated_symbol (key_of (pair_seed base u v))) is
 
@@ -109,10 +110,10 @@ length-first base symbols e = length-map-range_with_len (λ n. element_at base e
 length-second : (base : List ℕ) (symbols : ℕ) (e : ℕ × ℕ) → length (generated_pair base symbols e).b ≡ symbols
 length-second base symbols e = length-map-range_with_len (λ n. cond (eqb n 0) 0 (element_at base e.0 e.1 (symbols + n))) 0 symbols
 
-first_symbols : (base : List ℕ) (symbols : ℕ) (e : ℕ × ℕ) → All IsSymbol (generated_pair base symbols e).a
+pub first_symbols : (base : List ℕ) (symbols : ℕ) (e : ℕ × ℕ) → All IsSymbol (generated_pair base symbols e).a
 first_symbols base symbols e = All-map IsSymbol (λ n. element_at base e.0 e.1 n) (range_with_len 0 symbols) (λ i d lt. IsSymbol-element_at base e.0 e.1 _)
 
-second_symbols : (base : List ℕ) (symbols : ℕ) (e : ℕ × ℕ) → All IsSymbol (generated_pair base symbols e).b
+pub second_symbols : (base : List ℕ) (symbols : ℕ) (e : ℕ × ℕ) → All IsSymbol (generated_pair base symbols e).b
 second_symbols base symbols e =
     All-map IsSymbol (λ n. cond (eqb n 0) 0 (element_at base e.0 e.1 (symbols + n))) (range_with_len 0 symbols) (λ i d lt. IsSymbol-second base e.0 e.1 _ _)
 
@@ -133,7 +134,7 @@ IsPairKey-generated_pair base words e some most =
       no_first = no_first base (16 * words) e (omega arith);
     }
 
-IsPair-generated_pair : (base : List ℕ) (stations words : ℕ) (e : ℕ × ℕ) → 1 ≤ words → IsEdge stations e → IsPair stations words (generated_pair base (16 * words) e)
+pub IsPair-generated_pair : (base : List ℕ) (stations words : ℕ) (e : ℕ × ℕ) → 1 ≤ words → IsEdge stations e → IsPair stations words (generated_pair base (16 * words) e)
 IsPair-generated_pair base stations words e some is = record {
   ends = is.ends;
   within = is.within;
@@ -155,9 +156,9 @@ IsKeys-generated_keys base g words is some most fits =
       most_words = most;
       most_symbols = rw count fits;
       are_pairs = All-map (IsPair g.stations words) (generated_pair base (16 * words)) g.edges (λ i d lt. IsPair-generated_pair base g.stations words _ some (is.are_edges i d lt));
-      rising = λ i d lt.
-          let here = get_or-map (generated_pair base (16 * words)) g.edges i (0, 0) d (omega arith) in
-          let next = get_or-map (generated_pair base (16 * words)) g.edges (i + 1) (0, 0) d (omega arith) in
-          let before = is.rising i (0, 0) (omega arith) in
-          rw (here, next) (record { lesser = before.lesser; greater = before.greater });
+      rising = ends_rise (λ p. (p.u, p.v)) (map pair g.edges) (λ i d lt.
+          let here = get_or-map pair g.edges i (0, 0) d (omega (arith, count)) in
+          let next = get_or-map pair g.edges (i + 1) (0, 0) d (omega (arith, count)) in
+          let before = is.rising i (0, 0) (omega (arith, count)) in
+          rw (here, next) (record { lesser = before.lesser; greater = before.greater }));
     }

@@ -1,8 +1,14 @@
 mod Generated
+mod Ranges
+mod Expanded
 mod Pads
+mod AllRead
+mod HeadFound
+mod HeadAgain
 mod PairsRead
 mod Spelling
 mod Rereading
+mod SeedSpelling
 mod Putting
 mod WorkedElements
 mod Positions

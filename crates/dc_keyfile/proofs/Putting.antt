@@ -4,6 +4,9 @@ use Rattle.std.specs.List.{flat_map}
 use Rattle.std.proofs.lemmas.List.{take_more, append-nil}
 use Rattle.std.proofs.lemmas.List.Concat.{flat_map-append}
 
+pub both_put : (old one two p q : List ℕ) → one ≡ old ++ p → two ≡ one ++ q → two ≡ old ++ (p ++ q)
+both_put old one two p q first second = second ∙ ap (λ (xs : List ℕ). xs ++ q) first ∙ append_assoc old p q
+
 pub four_put : (old one two three end p q r s : List ℕ) → one ≡ old ++ p → two ≡ one ++ q → three ≡ two ++ r → end ≡ three ++ s → end ≡ old ++ (p ++ q ++ r ++ s)
 four_put old one two three end p q r s first second third fourth =
     fourth ∙ ap (λ (xs : List ℕ). xs ++ s) (third ∙ ap (λ (xs : List ℕ). xs ++ r) (second ∙ ap (λ (xs : List ℕ). xs ++ q) first)) ∙ simp append_assoc

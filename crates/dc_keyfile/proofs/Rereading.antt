@@ -1,24 +1,27 @@
--- What is spelled as a key file is read.
-use Rattle.std.proofs.Common.{◌≡◌, ℕ, zero, suc, ◌+◌, ◌-◌, ◌*◌, ◌^◌, ◌<◌, ◌≤◌, true, false, not, ◌&&◌, ◌||◌, ltb, eqb, List, [], ◌++◌, length, get_or, map, Ok, All, refl, sym, ap, subst, ◌∙◌, arith, inl, inr, append_assoc}
-use Rattle.std.specs.Prelude.{codes}
-use Rattle.std.specs.List.{range_with_len, flat_map, starts_with}
+-- What is spelled as a key file of version 1 is read.
+use Rattle.std.proofs.Common.{◌≡◌, ℕ, ◌+◌, ◌*◌, ◌<◌, ◌≤◌, Bool, true, false, ◌&&◌, ltb, eqb, List, ◌++◌, length, get_or, None, Ok, All, refl, sym, ap, ◌∙◌, arith, append_assoc}
+use Rattle.std.specs.List.{flat_map}
 use Rattle.std.specs.Int.{w16, to_be_bytes}
-use Rattle.std.proofs.lemmas.Bool.{cases_lt, le-ltb, lt-ltb, eq-eqb, ne_eqb}
-use Rattle.std.proofs.lemmas.List.{drop_at, drop-drop, length-append, get_or_append_left, get_or-append-add, get_or-map, length-map}
+use Rattle.std.proofs.lemmas.Bool.{eq-eqb, lt-ltb}
+use Rattle.std.proofs.lemmas.List.{drop_at, drop-drop, length-append, get_or_append_left, get_or-append-add}
 use Rattle.std.proofs.lemmas.List.Concat.{flat_map-append}
 use Rattle.std.proofs.lemmas.List.FromFn.{fill_by_all}
 use Rattle.std.proofs.lemmas.List.Elements.{All-same, All-append}
-use Rattle.dc_formats.proofs.BinaryLaws.{few_pairs}
 use Rattle.dc_spec.specs.Words.{IsSymbol}
 use Rattle.dc_spec.specs.Bytes.{symbol_bytes, number_at, short_at}
-use Rattle.dc_spec.specs.Pads.{Pair, Keys}
-use Rattle.dc_formats.specs.KeyFile.{IsPair, IsPairBefore, IsKeys, pair_bytes, keys_bytes}
-use Rattle.dc_keyfile.specs.Reading.{pair_size, due_length, piece_at, ends_of, are_ends, is_before, is_rising, numbers_at, pads_of, padded, pair_of, all_or_first, pairs_of, keys_after_head, keys_with_head, keys_from_bytes}
-use Rattle.dc_keyfile.proofs.Pads.{pads_are_read}
-use Rattle.dc_keyfile.proofs.PairsRead.{all_again}
+use Rattle.dc_spec.specs.Pads.{Pair, Keys, Seeds}
 use Rattle.dc_spec.proofs.ByteLemmas.{number_again, short_again, piece_of, length_of_pieces}
-use Rattle.dc_keyfile.proofs.ReaderTests.{within}
-use Rattle.dc_keyfile.proofs.Spelling.{head_of}
+use Rattle.dc_formats.specs.KeyFile.{IsPair, IsKeys, pair_bytes, keys_bytes}
+use Rattle.dc_formats.specs.SeedFile.{IsSeeds, seeds_bytes}
+use Rattle.dc_keyfile.specs.Generator.{expanded_keys}
+use Rattle.dc_keyfile.proofs.SeedSpelling.{seeds_again}
+use Rattle.dc_formats.proofs.BinaryLaws.{few_pairs}
+use Rattle.dc_keyfile.specs.declared.head.Head.{Head}
+use Rattle.dc_keyfile.specs.Head.{IsHead, head_bytes, after_head, piece_at, ends_of, ends_fault, pairs_of}
+use Rattle.dc_keyfile.specs.Reading.{pair_size, numbers_at, pads_of, padded, pair_of, keys_after_head, pads_from_bytes, expanded, is_of_seeds, keys_from_bytes}
+use Rattle.dc_keyfile.proofs.AllRead.{each_again}
+use Rattle.dc_keyfile.proofs.HeadAgain.{head_again, whole_again, piece_again, body_again, ends_again}
+use Rattle.dc_keyfile.proofs.Pads.{pads_are_read}
 
 -- ---- a pair
 
@@ -66,38 +69,10 @@ padded_again stations words place p most is =
     let greater = greater_again stations words p most is in
     rw (read, read', none) (λ i. Ok (record { u = lesser i; v = greater i; a = p.a; b = p.b }))
 
-ends_again : (stations words : ℕ) (p : Pair) → stations ≤ 256 → IsPair stations words p → are_ends stations (ends_of (pair_bytes p)) ≡ true
-ends_again stations words p most is =
-    let rising : ltb p.u p.v ≡ true = lt-ltb _ _ is.ends in
-    let within : ltb p.v stations ≡ true = lt-ltb _ _ is.within in
-    rw (lesser_again stations words p most is, greater_again stations words p most is, rising, within) refl
-
-pair_again : (bytes : List ℕ) (stations words place : ℕ) (p : Pair) → stations ≤ 256 → IsPair stations words p → piece_at bytes words place ≡ pair_bytes p
-    → is_rising bytes words place ≡ true → pair_of bytes stations words place ≡ Ok p
+pair_again : (bytes : List ℕ) (stations words place : ℕ) (p : Pair) → stations ≤ 256 → IsPair stations words p → piece_at bytes (pair_size words) place ≡ pair_bytes p
+    → ends_fault bytes stations (pair_size words) place ≡ None → pair_of bytes stations words place ≡ Ok p
 unfolding pair_of
-pair_again bytes stations words place p most is there rising =
-    let ends : are_ends stations (ends_of (piece_at bytes words place)) ≡ true = subst (λ (xs : List ℕ). are_ends stations (ends_of xs) ≡ true) (sym there) (ends_again stations words p most is) in
-    let read : padded (piece_at bytes words place) words place ≡ Ok p = subst (λ (xs : List ℕ). padded xs words place ≡ Ok p) (sym there) (padded_again stations words place p most is) in
-    rw (ends, rising, read) refl
-
--- ---- pairs that rise
-
-is_before_again : (a b c d : ℕ) → a ≤ c → (a ≡ c → b < d) → (ltb a c || (eqb a c && ltb b d)) ≡ true
-is_before_again a b c d le equal =
-    elim (cases_lt a c) [
-      | inl lt ↦ let first : ltb a c ≡ true = lt-ltb _ _ lt in rw first refl
-      | inr ge ↦
-          let same : a ≡ c = omega arith in
-          let not_less : ltb a c ≡ false = le-ltb _ _ ge in
-          let as_much : eqb a c ≡ true = eq-eqb _ _ same in
-          let less : ltb b d ≡ true = lt-ltb _ _ (equal same) in
-          rw (not_less, as_much, less) refl
-    ]
-
-before_again : (stations words : ℕ) (p q : Pair) → stations ≤ 256 → IsPair stations words p → IsPair stations words q → IsPairBefore p q
-    → is_before (ends_of (pair_bytes p)) (ends_of (pair_bytes q)) ≡ true
-before_again stations words p q most is is' before =
-    rw (lesser_again stations words p most is, lesser_again stations words q most is', greater_again stations words p most is, greater_again stations words q most is') (is_before_again p.u p.v q.u q.v before.lesser before.greater)
+pair_again bytes stations words place p most is there none = rw (none, there) (padded_again stations words place p most is)
 
 -- ---- the file
 
@@ -109,65 +84,52 @@ length-pair_bytes words p long long' =
 wide : (k : Keys) → IsKeys k → (i : ℕ) (d : Pair) → i < length k.pairs → length (pair_bytes (get_or k.pairs i d)) ≡ pair_size k.words
 wide k is i d lt = let pair = is.are_pairs i d lt in length-pair_bytes k.words (get_or k.pairs i d) pair.first_pads pair.second_pads
 
-length-keys_bytes : (k : Keys) → IsKeys k → length (keys_bytes k) ≡ due_length k.words (length k.pairs)
-length-keys_bytes k is =
-    length-append (head_of k.stations k.words (length k.pairs)) (flat_map pair_bytes k.pairs) ∙ ap (λ (n : ℕ). 12 + n) (length_of_pieces pair_bytes (pair_size k.words) k.pairs (wide k is))
+abbrev ends : Pair → ℕ × ℕ
+ends p = (p.u, p.v)
 
-piece_stands : (k : Keys) → IsKeys k → (i : ℕ) (d : Pair) → i < length k.pairs → piece_at (keys_bytes k) k.words i ≡ pair_bytes (get_or k.pairs i d)
-piece_stands k is i d lt =
-    rw (← drop-drop (pair_size k.words * i) 12 (keys_bytes k), drop_at (head_of k.stations k.words (length k.pairs)) (flat_map pair_bytes k.pairs) 12 refl) (piece_of pair_bytes (pair_size k.words) k.pairs (wide k is) i d lt)
+ends_there : (k : Keys) → IsKeys k → (i : ℕ) (d : Pair) → i < length k.pairs → ends_of (piece_at (keys_bytes k) (pair_size k.words) i) ≡ ends (get_or k.pairs i d)
+ends_there k is i d lt =
+    let pair = is.are_pairs i d lt in
+    let lesser = lesser_again k.stations k.words (get_or k.pairs i d) is.most_stations pair in
+    let greater = greater_again k.stations k.words (get_or k.pairs i d) is.most_stations pair in
+    rw (piece_again pair_bytes (head_bytes 1 k.stations k.words (length k.pairs)) (pair_size k.words) k.pairs refl (wide k is) i d lt) (λ j. (lesser j, greater j))
 
-rising_again : (k : Keys) → IsKeys k → (i : ℕ) (d : Pair) → i < length k.pairs → is_rising (keys_bytes k) k.words i ≡ true
-rising_again k is zero d lt = refl
-rising_again k is (suc i) d lt =
-    let not_first : eqb (suc i) 0 ≡ false = ne_eqb (suc i) 0 (λ e. omega arith) in
-    let before : suc i - 1 ≡ i = omega arith in
-    let next : i + 1 ≡ suc i = omega arith in
-    let one : piece_at (keys_bytes k) k.words i ≡ pair_bytes (get_or k.pairs i d) = piece_stands k is i d (omega arith) in
-    let other : piece_at (keys_bytes k) k.words (suc i) ≡ pair_bytes (get_or k.pairs (suc i) d) = piece_stands k is (suc i) d lt in
-    let rises : IsPairBefore (get_or k.pairs i d) (get_or k.pairs (suc i) d) = subst (λ (n : ℕ). IsPairBefore (get_or k.pairs i d) (get_or k.pairs n d)) next (is.rising i d (omega arith)) in
-    let ends : is_before (ends_of (piece_at (keys_bytes k) k.words i)) (ends_of (piece_at (keys_bytes k) k.words (suc i))) ≡ true
-    = rw (one, other) (before_again k.stations k.words (get_or k.pairs i d) (get_or k.pairs (suc i) d) is.most_stations (is.are_pairs i d (omega arith)) (is.are_pairs (suc i) d lt) rises) in
-    rw (not_first, before) ends
-
-a_pair : Pair
-a_pair = record { u = 0; v = 0; a = []; b = [] }
-
-pairs_again : (k : Keys) → IsKeys k → pairs_of (keys_bytes k) k.stations k.words (length k.pairs) ≡ Ok k.pairs
-unfolding pairs_of
+pairs_again : (k : Keys) → IsKeys k → pairs_of (pair_of (keys_bytes k) k.stations k.words) (length k.pairs) ≡ Ok k.pairs
 pairs_again k is =
-    let each : map Ok k.pairs ≡ map (pair_of (keys_bytes k) k.stations k.words) (range_with_len 0 (length k.pairs))
-    = fill_by_all (pair_of (keys_bytes k) k.stations k.words) (map Ok k.pairs) (length k.pairs) (Ok a_pair) (length-map k.pairs Ok)
-    (λ i lt. get_or-map Ok k.pairs i a_pair (Ok a_pair) lt
-    ∙ sym (pair_again (keys_bytes k) k.stations k.words i (get_or k.pairs i a_pair) is.most_stations (is.are_pairs i a_pair lt) (piece_stands k is i a_pair lt) (rising_again k is i a_pair lt))) in
-    ap all_or_first (sym each) ∙ all_again k.pairs
+    each_again (pair_of (keys_bytes k) k.stations k.words) k.pairs (λ i d lt.
+    let pair = is.are_pairs i d lt in
+    pair_again (keys_bytes k) k.stations k.words i (get_or k.pairs i d) is.most_stations pair (piece_again pair_bytes (head_bytes 1 k.stations k.words (length k.pairs)) (pair_size k.words) k.pairs refl (wide k is) i d lt)
+    (ends_again ends (keys_bytes k) k.stations (pair_size k.words) k.pairs is.rising (ends_there k is) i d lt pair.ends pair.within))
 
-body_again : (k : Keys) → IsKeys k → keys_after_head (keys_bytes k) k.stations k.words (length k.pairs) ≡ Ok k
+after_again : (k : Keys) → IsKeys k → keys_after_head (keys_bytes k) (record { stations = k.stations; words = k.words; count = length k.pairs }) ≡ Ok k
 unfolding keys_after_head
-body_again k is =
-    let long = length-keys_bytes k is in
-    let not_short : ltb (length (keys_bytes k)) (due_length k.words (length k.pairs)) ≡ false = le-ltb _ _ (omega arith) in
-    let not_long : ltb (due_length k.words (length k.pairs)) (length (keys_bytes k)) ≡ false = le-ltb _ _ (omega arith) in
-    rw (not_short, pairs_again k is, not_long) refl
-
-sized_again : (b : List ℕ) (k : Keys) → IsKeys k → keys_with_head b k.stations k.words (length k.pairs) ≡ keys_after_head b k.stations k.words (length k.pairs)
-unfolding keys_with_head
-sized_again b k is =
-    let not_large : ltb (2 ^ 26) (length k.pairs * (32 * k.words)) ≡ false = le-ltb _ _ is.most_symbols in
-    rw (within k.stations 256 is.some_stations is.most_stations, within k.words 4096 is.some_words is.most_words, not_large) refl
-
-head_again : (b : List ℕ) (stations words count : ℕ) → 12 ≤ length b → not (starts_with eqb b (codes "DCK")) ≡ false → get_or b 3 0 ≡ 1 → short_at b 4 ≡ stations
-    → short_at b 6 ≡ words → number_at b 8 ≡ count → keys_from_bytes b ≡ keys_with_head b stations words count
-unfolding keys_from_bytes
-head_again b stations words count long magic version first second third =
-    let not_short : ltb (length b) 12 ≡ false = le-ltb _ _ long in
-    let one : eqb (get_or b 3 0) 1 ≡ true = eq-eqb _ _ version in
-    rw (not_short, magic, one, first, second, third) refl
+after_again k is =
+    rw (body_again (keys_bytes k) (pair_size k.words) (pair_of (keys_bytes k) k.stations k.words) k.pairs (whole_again pair_bytes (head_bytes 1 k.stations k.words (length k.pairs)) (pair_size k.words) k.pairs refl (wide k is)) (pairs_again k is)) refl
 
 -- what is spelled so is read
+pub pads_again : (k : Keys) → IsKeys k → pads_from_bytes (keys_bytes k) ≡ Ok k
+unfolding pads_from_bytes
+pads_again k is =
+    let h : Head = record { stations = k.stations; words = k.words; count = length k.pairs } in
+    let is_head : IsHead (record { stations = k.stations; words = k.words; count = length k.pairs })
+    = record { some_stations = is.some_stations; most_stations = is.most_stations; some_words = is.some_words; most_words = is.most_words; most_symbols = is.most_symbols } in
+    ap (after_head (keys_after_head (keys_bytes k))) (head_again 1 (record { stations = k.stations; words = k.words; count = length k.pairs }) (flat_map pair_bytes k.pairs) is_head (few_pairs k is)) ∙ after_again k is
+
+and_no : (b : Bool) → (b && false) ≡ false
+and_no true = refl
+and_no false = refl
+
+-- also by the reader of both versions
 pub keys_again : (k : Keys) → IsKeys k → keys_from_bytes (keys_bytes k) ≡ Ok k
+unfolding keys_from_bytes
 keys_again k is =
-    let stations : short_at (keys_bytes k) 4 ≡ k.stations = let most = is.most_stations in short_again (keys_bytes k) 4 k.stations (omega arith) refl in
-    let words : short_at (keys_bytes k) 6 ≡ k.words = let most = is.most_words in short_again (keys_bytes k) 6 k.words (omega arith) refl in
-    let count : number_at (keys_bytes k) 8 ≡ length k.pairs = number_again (keys_bytes k) 8 (length k.pairs) (few_pairs k is) refl in
-    head_again (keys_bytes k) k.stations k.words (length k.pairs) (omega (arith, length-keys_bytes k is)) refl refl stations words count ∙ sized_again (keys_bytes k) k is ∙ body_again k is
+    let not_seeds : is_of_seeds (keys_bytes k) ≡ false = and_no (ltb 3 (length (keys_bytes k))) in
+    rw not_seeds (pads_again k is)
+
+-- and seeds are read as their expansion
+pub expanded_again : (s : Seeds) → IsSeeds s → keys_from_bytes (seeds_bytes s) ≡ Ok (expanded_keys s)
+unfolding keys_from_bytes
+expanded_again s is =
+    let there : ltb 3 (length (seeds_bytes s)) ≡ true = lt-ltb _ _ (omega arith) in
+    let seeds : is_of_seeds (seeds_bytes s) ≡ true = rw there refl in
+    rw seeds (ap expanded (seeds_again s is))

@@ -1,9 +1,9 @@
 -- The pad generator: ChaCha20, with the two stations of a pair in the last four bytes of its seed.
-use Rattle.std.specs.Prelude.{ℕ, ◌+◌, ◌*◌, ◌%◌, ◌^◌, ◌==◌, List, ◌++◌, map, take, if◌then◌else◌}
+use Rattle.std.specs.Prelude.{ℕ, ◌+◌, ◌*◌, ◌/◌, ◌%◌, ◌^◌, ◌==◌, List, [], ◌++◌, map, take, slice_index_or, if◌then◌else◌}
 use Rattle.std.specs.List.{range_with_len}
 use Rattle.std.specs.Int.{w16, to_be_bytes}
 use Rattle.rand_chacha.specs.ChaCha.{word_at, key_of}
-use Rattle.dc_spec.specs.Pads.{Pair, Keys}
+use Rattle.dc_spec.specs.Pads.{Pair, Keys, SeedPair, Seeds}
 use Rattle.dc_graph.specs.Graph.{PlainGraph}
 
 -- the seed of the pair (u, v): the base, with u in the bytes 28 and 29 and v in the bytes 30 and 31
@@ -30,3 +30,39 @@ generated_pair base symbols e = record {
 -- a pair for each edge of a key graph
 abbrev pub generated_keys : List ℕ → PlainGraph → ℕ → Keys
 generated_keys base g words = record { stations = g.stations; words = words; pairs = map (generated_pair base (16 * words)) g.edges }
+
+-- ---- seeds
+
+-- the pair that a seed gives, for a session of so many symbols: its own seed is the base
+abbrev pub expanded_pair : ℕ → SeedPair → Pair
+expanded_pair symbols p = generated_pair p.seed symbols (p.u, p.v)
+
+-- the expansion of a key file of seeds
+abbrev pub expanded_keys : Seeds → Keys
+expanded_keys f = record { stations = f.stations; words = f.words; pairs = map (expanded_pair (16 * f.words)) f.pairs }
+
+-- the key file of seeds in which each edge of a key graph has the same seed
+abbrev pub seeds_of : List ℕ → PlainGraph → ℕ → Seeds
+seeds_of base g words = record {
+  stations = g.stations;
+  words = words;
+  pairs = map (λ e. record { u = e.0; v = e.1; seed = base }) g.edges;
+}
+
+-- ---- pieces of sixteen elements
+
+-- sixteen elements of a pair, from this one on
+abbrev pub elements_from : SeedPair → ℕ → List ℕ
+elements_from p e = map (λ n. element_at p.seed p.u p.v (e + n)) (range_with_len 0 16)
+
+-- the pieces of a pair, for a session of so many words: as many for its first pads, then as many for its second
+abbrev pub pieces_of : ℕ → SeedPair → List (List ℕ)
+pieces_of words p = map (λ j. elements_from p (16 * j)) (range_with_len 0 (2 * words))
+
+-- a pair in the place of none
+abbrev pub no_seed : SeedPair
+no_seed = record { u = 0; v = 0; seed = [] }
+
+-- piece i of the pieces of all pairs, pair after pair
+abbrev pub piece_of : List SeedPair → ℕ → ℕ → List ℕ
+piece_of pairs words i = elements_from (slice_index_or pairs (i / (2 * words)) no_seed) (16 * (i % (2 * words)))

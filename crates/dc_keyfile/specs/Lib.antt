@@ -1,2 +1,4 @@
 pub mod Generator
+pub mod Head
 pub mod Reading
+pub mod SeedReading

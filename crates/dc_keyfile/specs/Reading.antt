@@ -1,39 +1,20 @@
 -- Reading a key file: the tests of its bytes in their order, and what is read.
-use Rattle.std.specs.Prelude.{ℕ, ◌+◌, ◌-◌, ◌*◌, Bool, not, ◌&&◌, ◌||◌, List, [], ◌∷◌, length, map, take, drop, slice_index, position, Option, Some, None, Result, Ok, Err, nat_eq, nat_lt, ◌==◌, if◌then◌else◌, codes}
-use Rattle.std.specs.List.{range_with_len, starts_with}
-use Rattle.dc_spec.specs.Bytes.{number_at, short_at}
-use Rattle.dc_spec.specs.Limits.{most_stations, most_words, most_pads}
-use Rattle.dc_spec.specs.Pads.{Pair, Keys}
+use Rattle.std.specs.Prelude.{ℕ, ◌+◌, ◌*◌, ◌&&◌, ◌≡◌, Bool, List, length, map, slice_index, position, Option, Some, None, Result, Ok, Err, nat_lt, ◌==◌, if◌then◌else◌}
+use Rattle.std.specs.List.{range_with_len}
+use Rattle.dc_spec.specs.Bytes.{number_at}
+use Rattle.dc_spec.specs.Pads.{Pair, Keys, Seeds}
+use Rattle.dc_formats.specs.KeyFile.{keys_bytes}
+use Rattle.dc_formats.specs.SeedFile.{IsSeeds, seeds_bytes}
+use Rattle.dc_keyfile.specs.declared.head.Head.{Head}
 use Rattle.dc_keyfile.specs.declared.fault.KeyFault.{KeyFault}
-use Rattle.dc_keyfile.specs.declared.fault.KeyFault.TheVariants.{Truncated, Magic, Version, Stations, Words, TooLarge, Pair as NoPair, Order, Symbol, FirstSecondPad, Rest}
+use Rattle.dc_keyfile.specs.declared.fault.KeyFault.TheVariants.{Symbol, FirstSecondPad}
+use Rattle.dc_keyfile.specs.Generator.{expanded_keys}
+use Rattle.dc_keyfile.specs.Head.{head_from_bytes, after_head, piece_at, ends_of, ends_fault, unless, body_of}
+use Rattle.dc_keyfile.specs.SeedReading.{seeds_from_bytes}
 
 -- the bytes of a pair: two for each end, four for each of its pads
 abbrev pub pair_size : ℕ → ℕ
 pair_size words = 4 + 128 * words
-
--- the length of a file of this number of pairs
-abbrev pub due_length : ℕ → ℕ → ℕ
-due_length words count = 12 + pair_size words * count
-
--- the bytes of the pair at a place
-abbrev pub piece_at : List ℕ → ℕ → ℕ → List ℕ
-piece_at bytes words p = take (pair_size words) (drop (due_length words p) bytes)
-
--- the two ends of a pair
-abbrev pub ends_of : List ℕ → ℕ × ℕ
-ends_of piece = (short_at piece 0, short_at piece 2)
-
--- whether ends are two of the stations, the smaller one first
-abbrev pub are_ends : ℕ → ℕ × ℕ → Bool
-are_ends stations e = nat_lt e.0 e.1 && nat_lt e.1 stations
-
--- whether ends are less than others: by the smaller end, and where these are equal by the greater end
-abbrev pub is_before : ℕ × ℕ → ℕ × ℕ → Bool
-is_before e f = nat_lt e.0 f.0 || (e.0 == f.0 && nat_lt e.1 f.1)
-
--- whether a pair is the first one or greater than the one before it
-abbrev pub is_rising : List ℕ → ℕ → ℕ → Bool
-is_rising bytes words p = p == 0 || is_before (ends_of (piece_at bytes words (p - 1))) (ends_of (piece_at bytes words p))
 
 -- the given number of numbers of a pair, first and then second pads, from this index on
 abbrev pub numbers_at : List ℕ → ℕ → ℕ → List ℕ
@@ -65,50 +46,36 @@ padded piece words p = with_first (ends_of piece) piece p (16 * words) (pads_of 
 -- the ends of the pair at a place are tested, then whether the pairs rise, then its pads
 unfoldable pub pair_of : List ℕ → ℕ → ℕ → ℕ → Result Pair KeyFault
 pair_of bytes stations words p =
-    if not (are_ends stations (ends_of (piece_at bytes words p))) then Err (NoPair p)
-    else if not (is_rising bytes words p) then Err (Order p)
-    else padded (piece_at bytes words p) words p
+    unless (ends_fault bytes stations (pair_size words) p) (padded (piece_at bytes (pair_size words) p) words p)
 
--- a pair before others that were read
-abbrev pub put_first : Pair → Result (List Pair) KeyFault → Result (List Pair) KeyFault
-put_first pair (Err fault) = Err fault
-put_first pair (Ok pairs) = Ok (pair ∷ pairs)
+-- the pairs with the numbers of the head
+abbrev pub with_pairs : Head → Result (List Pair) KeyFault → Result Keys KeyFault
+with_pairs head (Err fault) = Err fault
+with_pairs head (Ok pairs) = Ok (record { stations = head.stations; words = head.words; pairs = pairs })
 
--- all of them, or the first fault
-abbrev pub all_or_first : List (Result Pair KeyFault) → Result (List Pair) KeyFault
-all_or_first [] = Ok []
-all_or_first (Err fault ∷ rest) = Err fault
-all_or_first (Ok pair ∷ rest) = put_first pair (all_or_first rest)
+-- what comes after the head of version 1
+unfoldable pub keys_after_head : List ℕ → Head → Result Keys KeyFault
+keys_after_head bytes head =
+    with_pairs head (body_of bytes (pair_size head.words) head.count (pair_of bytes head.stations head.words))
 
--- the given number of pairs, each tested
-unfoldable pub pairs_of : List ℕ → ℕ → ℕ → ℕ → Result (List Pair) KeyFault
-pairs_of bytes stations words count = all_or_first (map (pair_of bytes stations words) (range_with_len 0 count))
+-- the keys that bytes of version 1 spell, or their first fault
+unfoldable pub pads_from_bytes : List ℕ → Result Keys KeyFault
+pads_from_bytes bytes = after_head (keys_after_head bytes) (head_from_bytes 1 bytes)
 
--- the keys, where no byte comes after the pairs
-abbrev pub ended : List ℕ → ℕ → ℕ → ℕ → Result (List Pair) KeyFault → Result Keys KeyFault
-ended bytes stations words count (Err fault) = Err fault
-ended bytes stations words count (Ok pairs) =
-    if nat_lt (due_length words count) (length bytes) then Err (Rest (due_length words count))
-    else Ok (record { stations = stations; words = words; pairs = pairs })
+-- the expansion of what was read
+abbrev pub expanded : Result Seeds KeyFault → Result Keys KeyFault
+expanded (Err fault) = Err fault
+expanded (Ok seeds) = Ok (expanded_keys seeds)
 
--- the length is tested, then the pairs, then the end
-unfoldable pub keys_after_head : List ℕ → ℕ → ℕ → ℕ → Result Keys KeyFault
-keys_after_head bytes stations words count =
-    if nat_lt (length bytes) (due_length words count) then Err (Truncated (length bytes) (due_length words count))
-    else ended bytes stations words count (pairs_of bytes stations words count)
+-- whether the byte of the version is there and is 2
+abbrev pub is_of_seeds : List ℕ → Bool
+is_of_seeds bytes = nat_lt 3 (length bytes) && slice_index bytes 3 == 2
 
--- the three numbers of the head are tested, then the body
-unfoldable pub keys_with_head : List ℕ → ℕ → ℕ → ℕ → Result Keys KeyFault
-keys_with_head bytes stations words count =
-    if stations == 0 || nat_lt most_stations stations then Err (Stations stations)
-    else if words == 0 || nat_lt most_words words then Err (Words words)
-    else if nat_lt most_pads (count * (32 * words)) then Err (TooLarge (count * (32 * words)))
-    else keys_after_head bytes stations words count
-
--- the keys that bytes spell, or their first fault
+-- the keys that bytes spell, or their first fault: those of version 2 are the expansion of their seeds, all others are tested as version 1
 unfoldable pub keys_from_bytes : List ℕ → Result Keys KeyFault
-keys_from_bytes bytes =
-    if nat_lt (length bytes) 12 then Err (Truncated (length bytes) 12)
-    else if not (starts_with nat_eq bytes (codes "DCK")) then Err Magic
-    else if not (slice_index bytes 3 == 1) then Err (Version (slice_index bytes 3))
-    else keys_with_head bytes (short_at bytes 4) (short_at bytes 6) (number_at bytes 8)
+keys_from_bytes bytes = if is_of_seeds bytes then expanded (seeds_from_bytes bytes) else pads_from_bytes bytes
+
+-- bytes spell keys: as pads, or as seeds whose expansion they are
+pub data IsSpelled (bytes : List ℕ) (k : Keys) : Type 0 where
+  as_pads : bytes ≡ keys_bytes k → IsSpelled bytes k
+  as_seeds : (s : Seeds) → IsSeeds s → bytes ≡ seeds_bytes s → k ≡ expanded_keys s → IsSpelled bytes k

@@ -12,7 +12,7 @@ pub enum KeyFault {
     },
     /// The first three bytes are not `DCK`.
     Magic,
-    /// The version is not 1.
+    /// The version is none that the reader accepts.
     Version {
         /// The version in the file.
         seen: u8,

@@ -82,7 +82,7 @@ fn generate_pair(
 }
 
 /// The seed of a pair.
-fn pair_seed(base: &[u8; 32], u: u16, v: u16) -> [u8; 32]
+pub(crate) fn pair_seed(base: &[u8; 32], u: u16, v: u16) -> [u8; 32]
     ensures { result ≡ pair_seed base.now u v }
 {
     let mut seed = *base;
@@ -118,7 +118,7 @@ fn next_symbols(alloc: Global, stream: &mut ChaCha20Rng, count: usize) -> Result
 }
 
 /// The symbol of the next two words of a stream.
-fn next_symbol(stream: &mut ChaCha20Rng) -> u32
+pub(crate) fn next_symbol(stream: &mut ChaCha20Rng) -> u32
     requires first_stream { stream.old.stream ≡ 0 }
     requires room { stream.old.word_pos + 2 < 2 ^ 64 }
     ensures value { result ≡ generated_symbol stream.old.key stream.old.word_pos }

@@ -1,12 +1,19 @@
-//! Key files, and the generator of the pads that they hold.
+//! Key files of pads and of seeds, and the generator of the pads.
 #![tactic(auto)]
 
+mod expansion;
 mod fault;
 mod generator;
+mod head;
 mod reading;
+mod seed_file;
+mod seed_reading;
 mod writing;
 
+pub use expansion::expand;
 pub use fault::KeyFault;
 pub use generator::{element, generate};
 pub use reading::read_keys;
-pub use writing::key_bytes;
+pub use seed_file::{SeedFile, SeedPair, SeedPairs};
+pub use seed_reading::read_seeds;
+pub use writing::{key_bytes, seed_bytes};

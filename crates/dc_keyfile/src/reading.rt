@@ -2,111 +2,105 @@
 
 ghost use Rattle.std.specs.Prelude.{◌≡◌, ◌+◌, ◌*◌, ◌^◌, ◌<◌, ◌≤◌, length, IfOk, Ok};
 ghost use Rattle.dc_spec.specs.Bytes.{number_at};
-ghost use Rattle.dc_spec.specs.Limits.{most_pads, most_stations, most_words};
-ghost use Rattle.dc_spec.specs.Pads.{Keys};
+ghost use Rattle.dc_spec.specs.Limits.{most_words};
+ghost use Rattle.dc_spec.specs.Pads.{Keys, Seeds};
 ghost use Rattle.dc_formats.specs.KeyFile.{IsKeys, keys_bytes};
+ghost use Rattle.dc_formats.specs.SeedFile.{IsSeeds, seeds_bytes};
 ghost use Rattle.dc_field.specs.Answers.{Answers};
-ghost use Rattle.dc_keyfile.specs.Reading.{pair_size, due_length, piece_at, ends_of, are_ends, is_before, is_rising, pads_of, padded, pair_of, pairs_of, keys_after_head, keys_with_head, keys_from_bytes};
+ghost use Rattle.dc_keyfile.specs.Generator.{expanded_keys};
+ghost use Rattle.dc_keyfile.specs.Head.{IsHead, due_length, body_of, pairs_of};
+ghost use Rattle.dc_keyfile.specs.Reading.{IsSpelled, pair_size, pads_of, padded, pair_of, keys_after_head, pads_from_bytes, keys_from_bytes};
 
+use crate::expansion::expand;
 use crate::fault::KeyFault;
-use dc_field::{MOST_PADS, MOST_STATIONS, MOST_WORDS, Refusal, Syms};
+use crate::head::{Head, ends, ends_fault, pair_piece, read_head};
+use crate::seed_reading::read_seeds;
+use dc_field::{Refusal, Syms};
 use dc_keys::{KeyFile, PairKey, Pairs};
 use std::alloc::Global;
+use std::thread::Threads;
 
-/// The keys that the bytes of a key file spell, or the first fault.
+/// The keys that the bytes of a key file of either version spell, or the first fault.
 ///
-/// A key file is this project's own format, version 1. No memory is taken before there are as many
-/// bytes as the head requires.
-pub fn read_keys(alloc: Global, b: &[u8]) -> Result<KeyFile, Refusal<KeyFault>>
-    // The keys, or the first fault by the order of the tests.
-    ensures exact { Answers result (keys_from_bytes b.now) }
-    // The keys that are read keep the limits, and the bytes are their spelling.
-    ensures found { IfOk result (λ k. IsKeys k × (b.now ≡ keys_bytes k)) }
-    // The spelling of all keys within the limits is read as those keys.
-    ensures only { (k : Keys) → IsKeys k → b.now ≡ keys_bytes k → Answers result (Ok k) }
-{
-    read_head(alloc, b)
-}
-
-/// Tests the first eight bytes, then reads on.
-#[tactic(auto, unfolding(crate::specs::Reading::keys_from_bytes))]
-fn read_head(alloc: Global, b: &[u8]) -> Result<KeyFile, Refusal<KeyFault>>
-    ensures { Answers result (keys_from_bytes b.now) }
-{
-    if b.len() < 12 {
-        return Err(Refusal::Bad(KeyFault::Truncated {
-            at: b.len() as u64,
-            need: 12,
-        }));
-    }
-    if !b.starts_with(b"DCK") {
-        return Err(Refusal::Bad(KeyFault::Magic));
-    }
-    if b[3] != 1 {
-        return Err(Refusal::Bad(KeyFault::Version { seen: b[3] }));
-    }
-    let stations = u16::from_be_bytes([b[4], b[5]]);
-    let words = u16::from_be_bytes([b[6], b[7]]);
-    let count = u32::from_be_bytes([b[8], b[9], b[10], b[11]]);
-    read_sized(alloc, b, stations, words, count)
-}
-
-/// Tests the three numbers of the head, then reads on.
-#[tactic(auto, unfolding(crate::specs::Reading::keys_with_head))]
-fn read_sized(
+/// A key file is this project's own format. Version 1 holds the pads; of version 2, which holds a
+/// seed for each pair, the answer is the expansion, computed on the threads of `rt`. No memory is
+/// taken before there are as many bytes as the head requires.
+pub fn read_keys<R: Threads + Sync>(
+    rt: &R,
     alloc: Global,
     b: &[u8],
-    stations: u16,
-    words: u16,
-    count: u32,
 ) -> Result<KeyFile, Refusal<KeyFault>>
-    ensures { Answers result (keys_with_head b.now stations words count) }
+    // The keys, or the first fault by the order of the tests.
+    ensures exact { Answers result (keys_from_bytes b.now) }
+    // The keys that are read keep the limits, and the bytes are their spelling, or that of seeds
+    // whose expansion they are.
+    ensures found { IfOk result (λ k. IsKeys k × IsSpelled b.now k) }
+    // The spelling of all keys within the limits is read as those keys.
+    ensures only { (k : Keys) → IsKeys k → b.now ≡ keys_bytes k → Answers result (Ok k) }
+    // The spelling of all seeds within the limits is read as their expansion.
+    ensures seeds { (s : Seeds) → IsSeeds s → b.now ≡ seeds_bytes s → Answers result (Ok (expanded_keys s)) }
 {
-    if stations == 0 || MOST_STATIONS < stations {
-        return Err(Refusal::Bad(KeyFault::Stations { seen: stations }));
+    read_either(rt, alloc, b)
+}
+
+/// Reads version 2 where the byte of the version is 2, and else version 1.
+#[tactic(auto, unfolding(crate::specs::Reading::keys_from_bytes))]
+fn read_either<R: Threads + Sync>(
+    rt: &R,
+    alloc: Global,
+    b: &[u8],
+) -> Result<KeyFile, Refusal<KeyFault>>
+    ensures { Answers result (keys_from_bytes b.now) }
+{
+    if 3 < b.len() && b[3] == 2 {
+        let seeds = read_seeds(alloc, b)?;
+        return Ok(expand(rt, alloc, &seeds)?);
     }
-    if words == 0 || MOST_WORDS < words {
-        return Err(Refusal::Bad(KeyFault::Words { seen: words }));
-    }
-    let symbols = u64::from(count) * (32 * u64::from(words));
-    if (MOST_PADS as u64) < symbols {
-        return Err(Refusal::Bad(KeyFault::TooLarge { symbols }));
-    }
-    read_body(alloc, b, stations, words, count as usize)
+    read_pads_file(alloc, b)
+}
+
+/// Reads version 1.
+#[tactic(auto, unfolding(crate::specs::Reading::pads_from_bytes))]
+fn read_pads_file(alloc: Global, b: &[u8]) -> Result<KeyFile, Refusal<KeyFault>>
+    ensures { Answers result (pads_from_bytes b.now) }
+{
+    let head = read_head(b, 1)?;
+    read_after_head(alloc, b, head)
+}
+
+/// What comes after the head.
+#[tactic(auto, unfolding(crate::specs::Reading::keys_after_head))]
+fn read_after_head(alloc: Global, b: &[u8], head: Head) -> Result<KeyFile, Refusal<KeyFault>>
+    requires { IsHead head }
+    ensures { Answers result (keys_after_head b.now head) }
+{
+    let pairs = read_body(alloc, b, head)?;
+    Ok(KeyFile {
+        stations: head.stations,
+        words: head.words,
+        pairs,
+    })
 }
 
 /// Tests the length, then the pairs, then the end.
-#[tactic(auto, unfolding(crate::specs::Reading::keys_after_head))]
-fn read_body(
-    alloc: Global,
-    b: &[u8],
-    stations: u16,
-    words: u16,
-    count: usize,
-) -> Result<KeyFile, Refusal<KeyFault>>
-    requires some_stations { 1 ≤ stations }
-    requires most_stations { stations ≤ most_stations }
-    requires some_words { 1 ≤ words }
-    requires most_words { words ≤ most_words }
-    requires most_symbols { count * (32 * words) ≤ most_pads }
-    ensures { Answers result (keys_after_head b.now stations words count) }
+#[tactic(auto, unfolding(crate::specs::Head::body_of))]
+fn read_body(alloc: Global, b: &[u8], head: Head) -> Result<Pairs, Refusal<KeyFault>>
+    requires { IsHead head }
+    ensures { Answers result (body_of b.now (pair_size head.words) head.count (pair_of b.now head.stations head.words)) }
 {
-    let due = 12 + (4 + 128 * usize::from(words)) * count;
+    let count = head.count as usize;
+    let due = 12 + (4 + 128 * usize::from(head.words)) * count;
     if b.len() < due {
         return Err(Refusal::Bad(KeyFault::Truncated {
             at: b.len() as u64,
             need: due as u64,
         }));
     }
-    let pairs = read_pairs(alloc, b, stations, words, count)?;
+    let pairs = read_pairs(alloc, b, head.stations, head.words, count)?;
     if due < b.len() {
         return Err(Refusal::Bad(KeyFault::Rest { at: due as u64 }));
     }
-    Ok(KeyFile {
-        stations,
-        words,
-        pairs,
-    })
+    Ok(pairs)
 }
 
 /// The pairs after the head, in memory taken once.
@@ -120,8 +114,8 @@ fn read_pairs(
     requires some_words { 1 ≤ words }
     requires most_words { words ≤ most_words }
     requires most_pairs { count < 2 ^ 32 }
-    requires long_enough { due_length words count ≤ length b.now }
-    ensures { Answers result (pairs_of b.now stations words count) }
+    requires long_enough { due_length (pair_size words) count ≤ length b.now }
+    ensures { Answers result (pairs_of (pair_of b.now stations words) count) }
 {
     let mut pairs = Vec::with_capacity(alloc, count)?;
     for place in 0..count {
@@ -142,21 +136,14 @@ fn read_pair(
     requires some_words { 1 ≤ words }
     requires most_words { words ≤ most_words }
     requires places { place < 2 ^ 32 }
-    requires long_enough { due_length words (place + 1) ≤ length b.now }
+    requires long_enough { due_length (pair_size words) (place + 1) ≤ length b.now }
     ensures { Answers result (pair_of b.now stations words place) }
 {
-    let piece = pair_piece(b, words, place);
-    if !are_ends(stations, ends(piece)) {
-        return Err(Refusal::Bad(KeyFault::Pair {
-            place: place as u32,
-        }));
+    let size = 4 + 128 * usize::from(words);
+    if let Some(fault) = ends_fault(b, stations, size, place) {
+        return Err(Refusal::Bad(fault));
     }
-    if !is_rising(b, words, place) {
-        return Err(Refusal::Bad(KeyFault::Order {
-            place: place as u32,
-        }));
-    }
-    read_padded(alloc, piece, words, place)
+    read_padded(alloc, pair_piece(b, size, place), words, place)
 }
 
 /// The pads of a pair.
@@ -217,54 +204,4 @@ fn number(piece: &[u8], at: usize) -> u32
     ensures { result ≡ number_at piece.now at }
 {
     u32::from_be_bytes([piece[at], piece[at + 1], piece[at + 2], piece[at + 3]])
-}
-
-/// The bytes of the pair at a place.
-fn pair_piece(b: &[u8], words: u16, place: usize) -> &[u8]
-    requires places { place < 2 ^ 32 }
-    requires long_enough { due_length words (place + 1) ≤ length b.now }
-    ensures value { result.now ≡ piece_at b.now words place }
-    ensures whole { length result.now ≡ pair_size words }
-{
-    let size = 4 + 128 * usize::from(words);
-    let at = 12 + size * place;
-    &b[at..at + size]
-}
-
-/// The two ends of a pair.
-fn ends(piece: &[u8]) -> (u16, u16)
-    requires { 4 ≤ length piece.now }
-    ensures { result ≡ ends_of piece.now }
-{
-    let u = u16::from_be_bytes([piece[0], piece[1]]);
-    let v = u16::from_be_bytes([piece[2], piece[3]]);
-    (u, v)
-}
-
-/// Whether the ends are two stations, the smaller one first.
-fn are_ends(stations: u16, ends: (u16, u16)) -> bool
-    ensures { result ≡ are_ends stations ends }
-{
-    ends.0 < ends.1 && ends.1 < stations
-}
-
-/// Whether a pair is the first one or greater than the one before it.
-fn is_rising(b: &[u8], words: u16, place: usize) -> bool
-    requires places { place < 2 ^ 32 }
-    requires long_enough { due_length words (place + 1) ≤ length b.now }
-    ensures { result ≡ is_rising b.now words place }
-{
-    if place == 0 {
-        return true;
-    }
-    let before = ends(pair_piece(b, words, place - 1));
-    let here = ends(pair_piece(b, words, place));
-    is_before(before, here)
-}
-
-/// Whether ends are less than others: by the smaller end, then by the greater.
-fn is_before(before: (u16, u16), after: (u16, u16)) -> bool
-    ensures { result ≡ is_before before after }
-{
-    before.0 < after.0 || (before.0 == after.0 && before.1 < after.1)
 }

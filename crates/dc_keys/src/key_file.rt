@@ -1,7 +1,7 @@
 //! Key files: the pads of all pairs of a session.
 
 ghost use Rattle.std.specs.Prelude.{◌≡◌, ◌↔◌, IsTrue, IfOk, SomeIff};
-ghost use Rattle.dc_formats.specs.KeyFile.{IsKeys, IsPair, IsPairBefore};
+ghost use Rattle.dc_formats.specs.KeyFile.{IsKeys, IsPair, AreEndsBefore};
 
 use crate::pair_key::{PairKey, Pairs};
 use dc_field::{MOST_PADS, MOST_STATIONS, MOST_WORDS, NoMemory};
@@ -96,7 +96,7 @@ fn is_pair(stations: u16, words: u16, pair: &PairKey) -> bool
 
 /// Whether a pair comes before another by its ends.
 fn is_before(p: &PairKey, q: &PairKey) -> bool
-    ensures { IsTrue result ↔ IsPairBefore p.now q.now }
+    ensures { IsTrue result ↔ AreEndsBefore (p.now.u, p.now.v) (q.now.u, q.now.v) }
 {
     p.u < q.u || (p.u == q.u && p.v < q.v)
 }

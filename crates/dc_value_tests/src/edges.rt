@@ -1,6 +1,6 @@
 //! The objects of the outside in memory, and a reader in memory.
 
-use dc_edge::{Failed, MemoryShelf, MemorySink, Shelf, ShelfFault, Sink, read_rest};
+use dc_edge::{Failed, MemoryShelf, MemorySink, Shelf, ShelfFault, Sink, WriteFault, read_rest};
 use std::process::Abort;
 use std::test::Fail;
 
@@ -66,6 +66,29 @@ fn a_shelf_answers_by_name(rt: HostRuntime) -> Result<(), Fail> {
     reads(&rt, &mut shelf, "a", 5, Err(ShelfFault::TooLong));
     reads(&rt, &mut shelf, "a", 6, Err(ShelfFault::Failed));
     reads(&rt, &mut shelf, "a", 6, Ok(b"second"));
+    Ok(())
+}
+
+/// Asserts the answer of a write.
+pub fn writes<R: AllocGlobal + Abort, F: Shelf>(
+    rt: &R,
+    shelf: &mut F,
+    name: &str,
+    bytes: &[u8],
+    answer: Result<(), WriteFault>,
+) {
+    assert_eq!(rt; shelf.write(rt.alloc(), name, bytes), answer, "{name}");
+}
+
+#[test]
+fn a_shelf_takes_files(rt: HostRuntime) -> Result<(), Fail> {
+    let mut shelf = MemoryShelf::new(rt.alloc(), &[2])?;
+    shelf.hold(rt.alloc(), "a", b"first")?;
+    writes(&rt, &mut shelf, "a", b"second", Ok(()));
+    writes(&rt, &mut shelf, "b", b"other", Ok(()));
+    writes(&rt, &mut shelf, "a", b"third", Err(WriteFault::Failed));
+    reads(&rt, &mut shelf, "a", 6, Ok(b"second"));
+    reads(&rt, &mut shelf, "b", 9, Ok(b"other"));
     Ok(())
 }
 

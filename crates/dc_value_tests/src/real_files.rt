@@ -1,7 +1,7 @@
 //! The objects of the outside over the real system.
 
-use crate::edges::reads;
-use dc_edge::{DirShelf, Failed, Shelf, ShelfFault, Sink, StdSink};
+use crate::edges::{reads, writes};
+use dc_edge::{DirShelf, Failed, ShelfFault, Sink, StdSink, WriteFault};
 use std::io::{ErrorKind, Write};
 use std::process::Abort;
 use std::test::Fail;
@@ -29,6 +29,28 @@ fn a_shelf_reads_files(rt: HostRuntime) -> Result<(), Fail> {
     reads(&rt, &mut shelf, "/dev/null", 6, Ok(b""));
     reads(&rt, &mut shelf, "/dev/zero", 6, Err(ShelfFault::TooLong));
     fs::remove_file(&rt, path.as_str())?;
+    Ok(())
+}
+
+#[test]
+fn a_shelf_writes_files(rt: HostRuntime) -> Result<(), Fail> {
+    let folder = env::temp_dir(&rt)?;
+    let folder = folder.as_path().as_str();
+    let id = process::id(rt.process());
+    let room = format!(in rt.alloc(); "{folder}/dcnet_room_{id}")?;
+    let path = format!(in rt.alloc(); "{room}/k.bin")?;
+    fs::create_dir(&rt, room.as_str())?;
+    let mut shelf = DirShelf::new(rt);
+    writes(&rt, &mut shelf, path.as_str(), b"a long file", Ok(()));
+    reads(&rt, &mut shelf, path.as_str(), 20, Ok(b"a long file"));
+    writes(&rt, &mut shelf, path.as_str(), b"a file", Ok(()));
+    reads(&rt, &mut shelf, path.as_str(), 20, Ok(b"a file"));
+    writes(&rt, &mut shelf, room.as_str(), b"", Err(WriteFault::Failed));
+    writes(&rt, &mut shelf, "/dev/null", b"", Err(WriteFault::Failed));
+    // A folder that still had a file in it could not be removed.
+    fs::remove_file(&rt, path.as_str())?;
+    fs::remove_dir(&rt, room.as_str())?;
+    writes(&rt, &mut shelf, path.as_str(), b"", Err(WriteFault::Failed));
     Ok(())
 }
 

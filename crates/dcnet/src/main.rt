@@ -12,6 +12,8 @@ use std::process::ExitCode;
 use std::{env, io};
 
 #[cfg(test)]
+mod keygen_tests;
+#[cfg(test)]
 mod tests;
 
 fn main(rt: HostRuntime) -> ExitCode {

@@ -1,4 +1,4 @@
-use Rattle.dc_cli.proofs.PromiseLemmas.{RefusesOtherWords-run, PrintsSums-run, Completes-run, AsksInOrder-run, KeepsFiles-run, PrintsOnlyWhenDone-run, MissesTheAbsent-run, RefusesTheLong-run, RefusesTheMalformed-run, TellsTheFault-run, TellsTheLast-run, HasCauses-run}
+use Rattle.dc_cli.proofs.PromiseLemmas.{RefusesOtherWords-run, PrintsSums-run, Completes-run, AsksInOrder-run, KeepsFiles-run, PrintsOnlyWhenDone-run, MissesTheAbsent-run, RefusesTheLong-run, RefusesTheMalformed-run, TellsTheFault-run, TellsTheLast-run, HasCauses-run, WritesKeys-run, RunsKeygen-run}
 use Rattle.dc_cli.proofs.top.dcnet.Goals as goal
 
 pub returns-clause-words : goal.returns-clause-words
@@ -36,3 +36,9 @@ returns-clause-causes g c = HasCauses-run _ c.run-outcome.ensures
 
 pub returns-clause-last : goal.returns-clause-last
 returns-clause-last g c = TellsTheLast-run _ c.run-outcome.ensures
+
+pub returns-clause-keys : goal.returns-clause-keys
+returns-clause-keys g c = WritesKeys-run _ c.run-outcome.ensures
+
+pub returns-clause-keygen : goal.returns-clause-keygen
+returns-clause-keygen g c = RunsKeygen-run _ c.run-outcome.ensures

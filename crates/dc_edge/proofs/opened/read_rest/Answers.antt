@@ -1,4 +1,4 @@
-use Rattle.std.proofs.Common.{arith, ◌≡◌, ◌≤◌, ◌+◌, ◌-◌, ◌^◌, ◌<◌, ◌∙◌, min, length, ℕ}
+use Rattle.std.proofs.Common.{arith, ◌≡◌, ◌≤◌, ◌+◌, ◌-◌, ◌^◌, ◌<◌, ◌∙◌, min, length}
 use Rattle.dc_edge.proofs.Rest.{rest_whole}
 use Rattle.dc_edge.proofs.opened.read_rest.Goals as goal
 

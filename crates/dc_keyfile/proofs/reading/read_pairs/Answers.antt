@@ -1,15 +1,15 @@
 use Rattle.std.proofs.Common.{Ok, ◌∙◌, ap, sym, arith}
 use Rattle.dc_keyfile.specs.Reading.{pair_of}
-use Rattle.dc_keyfile.proofs.PairsRead.{one_more, refusal_is_first, pairs_are_read}
+use Rattle.dc_keyfile.proofs.AllRead.{one_more, refusal_is_first, pairs_are_read}
 use Rattle.dc_keyfile.proofs.reading.read_pairs.Goals as goal
 
 pub returns-in_err-read_pair : goal.returns-in_err-read_pair
 returns-in_err-read_pair c =
-    refusal_is_first c.args.b.now c.args.stations c.args.words c.args.count c.loop-place.place _ _ c.from_residual-in_err-read_pair.result (omega arith) c.loop-place.invariant c.in_err-read_pair.ensures c.from_residual-in_err-read_pair.ensures.1
+    refusal_is_first (pair_of c.args.b.now c.args.stations c.args.words) c.args.count c.loop-place.place _ _ c.from_residual-in_err-read_pair.result (omega arith) c.loop-place.invariant c.in_err-read_pair.ensures c.from_residual-in_err-read_pair.ensures.1
 
 pub loop-place-preserved : goal.loop-place-preserved
 loop-place-preserved c =
     one_more (pair_of c.args.b.now c.args.stations c.args.words) c.loop-place.place _ _ _ c.loop-place.invariant c.in_ok-read_pair.ensures c.in_ok-push.ensures.items
 
 pub returns : goal.returns
-returns c = pairs_are_read c.args.b.now c.args.stations c.args.words c.args.count c.loop-place.place _ (omega arith) c.loop-place.invariant ∙ ap Ok (sym c.from_vec.ensures)
+returns c = pairs_are_read (pair_of c.args.b.now c.args.stations c.args.words) c.args.count c.loop-place.place _ (omega arith) c.loop-place.invariant ∙ ap Ok (sym c.from_vec.ensures)
