@@ -2,7 +2,7 @@
 
 import re
 
-from .kind import Kind, Unchecked, byte_list, key_pair, listing, local_name, numbers, record, stream, turn, words
+from .kind import Kind, Unchecked, byte_list, key_pair, listing, local_name, numbers, record, script, stream, words
 
 # All definitions that these kinds use.
 WRITING = {
@@ -35,7 +35,8 @@ READ_SCRIPTS = {
     "dc_spec.specs.Words": "word_of",
     "dc_spec.specs.Scripts": "all_sum each",
     "dc_script.specs.Reading": "script_fault=at_line script_from_bytes",
-    "dc_script.specs.declared.fault.ScriptKind.TheVariants": "NotText Header Form Round TooMany Misplaced Order Missing",
+    "dc_script.specs.declared.fault.ScriptKind.TheVariants": "NotText Header Form Round TooMany Misplaced Order Missing Late "
+    "Unordered Terms",
 }
 
 
@@ -85,7 +86,7 @@ def stream_file(data):
     return stream({"shorts": rest["short"], "longs": rest["long"], "coins": rest["coin"]})
 
 
-def script(data):
+def script_file(data):
     """The content of a script of version 1."""
     rounds = []
     for line in lines_of(data)[1:]:
@@ -96,7 +97,7 @@ def script(data):
             rounds[-1]["each"] = None
         else:
             rounds[-1]["says" if name == "say" else "each"].append((int(rest[0]), rest[1]))
-    return listing([turn(one) for one in rounds])
+    return script(1, rounds)
 
 
 def images(data):
@@ -113,7 +114,7 @@ CONTENTS = {
     "transcript": ("transcript_bytes", transcript),
     "keys": ("keys_bytes", key_file),
     "stream": ("stream_text", stream_file),
-    "script": ("script_text", script),
+    "script": ("script_text", script_file),
     "perm": ("images_text", images),
     "wanted": ("wanted_text", wanted),
 }
@@ -170,27 +171,12 @@ def read(name, reader, homes):
     return claims
 
 
-def without_terms(one):
-    """A round of a script of version 1, whose words have no terms."""
-    if any(said[2] for said in one["says"] + (one["each"] or [])):
-        raise ValueError("a script of version 1 has no terms")
-    return {"says": [said[:2] for said in one["says"]], "each": one["each"] and [said[:2] for said in one["each"]]}
-
-
 def scripts2(case):
-    """What is read of a script of version 1, or of a file that is refused before its version shows; and what is written of it."""
-    data = bytes.fromhex(case["bytes"])
-    if is_second_script(case):
-        return None
+    """What is read of a script of either version, or its fault; and that what is written of it is the file."""
     if case["fault"] is not None:
-        return [read_claim("script_from_bytes", READ_SCRIPTS, data, case["fault"], script)]
-    turns = listing([turn(without_terms(one)) for one in case["script"]])
-    return [f"script_from_bytes {byte_list(case['bytes'])} ≡ Ok {turns}", f"script_text {turns} ≡ {byte_list(case['bytes'])}"]
-
-
-def is_second_script(case):
-    """Whether a script has version 2."""
-    return bytes.fromhex(case["bytes"]).startswith(b"dcscript 2\n")
+        return [read_claim("script_from_bytes", READ_SCRIPTS, bytes.fromhex(case["bytes"]), case["fault"], script_file)]
+    content = script(case["version"], case["script"])
+    return [f"script_from_bytes {byte_list(case['bytes'])} ≡ Ok {content}", f"script_text {content} ≡ {byte_list(case['bytes'])}"]
 
 
 def has_ends(pair, ends):
@@ -226,7 +212,6 @@ def unchecked_file(case):
 # what of a line no kind here checks
 UNCHECKED = {
     "files": unchecked_file,
-    "scripts2": lambda case: "scripts of version 2 are not defined yet" if is_second_script(case) else None,
     "seeds": lambda case: "key files of version 2 are not defined yet" if is_second_key_file(case) else None,
 }
 
