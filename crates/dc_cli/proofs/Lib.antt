@@ -1,5 +1,3 @@
-pub mod PutLemmas
-pub mod PrintLemmas
 pub mod CommandLemmas
 pub mod RanLemmas
 pub mod ShelfLemmas

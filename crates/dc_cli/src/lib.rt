@@ -8,7 +8,6 @@ mod keygen;
 mod manifest_fault;
 mod outcome;
 mod pieces;
-mod printing;
 mod reading;
 mod summing;
 mod top;

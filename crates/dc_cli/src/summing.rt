@@ -3,11 +3,11 @@
 ghost use Rattle.dc_cli.specs.Summing.{SumRan, SummedFile, SummedBytes};
 
 use crate::outcome::{FileFault, Outcome};
-use crate::printing::put_words;
 use crate::reading::{malformed, read_file};
 use dc_edge::{Shelf, Sink};
 use dc_field::{Refusal, TRANSCRIPT_LIMIT, Words};
 use dc_superpose::read_sums;
+use dc_view::put_words;
 use std::alloc::Global;
 
 /// Prints the superposed words of a transcript.

@@ -4,3 +4,6 @@ pub mod Flags
 pub mod FirstBy
 pub mod Differences
 pub mod Refusals
+pub mod Columns
+pub mod Seats
+pub mod RowWalk

@@ -3,3 +3,7 @@ pub mod Checked
 pub mod Walks
 pub mod Stations
 pub mod Tests
+pub mod KeyPart
+pub mod Seat
+pub mod WordList
+pub mod Rows

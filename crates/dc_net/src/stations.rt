@@ -6,9 +6,10 @@ ghost use Rattle.dc_spec.specs.Limits.{most_stations};
 ghost use Rattle.dc_net.specs.Stations.{AreFlags};
 
 use arrayvec::ArrayVec;
+use dc_field::MOST_STATIONS;
 
 /// How many stations a net has at most, as the length of a table.
-pub(crate) const STATIONS: usize = 256;
+pub(crate) const STATIONS: usize = MOST_STATIONS as usize;
 
 /// For each station whether it is a member.
 pub(crate) fn member_flags(members: &[u16]) -> [bool; STATIONS]

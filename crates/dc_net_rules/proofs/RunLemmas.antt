@@ -20,13 +20,13 @@ sum_delivered net sums t = elim (cases_Bool (nat_lt t (length net.script.rounds)
 ]
 
 -- what a round lets a station hear
-heard_in : (net : Net) (played : List Round) (i : ℕ) → i < net.stations → word_of_station (next_round net played).received i ≡ heard net (script_turn net (length played)).delivery
+pub heard_in : (net : Net) (played : List Round) (i : ℕ) → i < net.stations → word_of_station (next_round net played).received i ≡ heard net (script_turn net (length played)).delivery
     (published played ++ next_words net played) (next_round net played).sum i
 heard_in net played i low =
     get_or-map-range_with_len (heard net (script_turn net (length played)).delivery (published played ++ next_words net played) (next_round net played).sum) 0 net.stations i i zero_word low (omega arith)
 
 -- an honest station is a station
-honest_below : (net : Net) (i : ℕ) → IsHonest net i → i < net.stations
+pub honest_below : (net : Net) (i : ℕ) → IsHonest net i → i < net.stations
 honest_below net i honest = let bound : i < 0 + net.stations = below_range 0 net.stations i (kept_stands (λ j. not (is_among net.coalition j)) (range_with_len 0 net.stations) i honest) in omega arith
 
 -- where the sum is delivered, an honest station hears it

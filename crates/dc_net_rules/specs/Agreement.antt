@@ -103,16 +103,16 @@ abbrev pub disagreement : Net → Option Disagreement
 disagreement net =
     let turns = enumerate_from 0 net.script.rounds in
     first_of (
-      (if net.keys.stations == net.stations then None else Some (key_stations net.keys.stations net.stations))
-      ∷ (if net.keys.words == net.words then None else Some (key_words net.keys.words net.words))
-      ∷ missing_key net
-      ∷ stray_key net
-      ∷ first_by (stream_fault net) (range_with_len 0 net.stations)
-      ∷ (if length net.script.rounds == net.words then None else Some (script_rounds (length net.script.rounds) net.words))
-      ∷ first_by (station_fault net) turns
-      ∷ first_by (delivery_fault net) turns
-      ∷ first_by (rule_fault net) turns
-      ∷ [])
+    (if net.keys.stations == net.stations then None else Some (key_stations net.keys.stations net.stations))
+    ∷ (if net.keys.words == net.words then None else Some (key_words net.keys.words net.words))
+    ∷ missing_key net
+    ∷ stray_key net
+    ∷ first_by (stream_fault net) (range_with_len 0 net.stations)
+    ∷ (if length net.script.rounds == net.words then None else Some (script_rounds (length net.script.rounds) net.words))
+    ∷ first_by (station_fault net) turns
+    ∷ first_by (delivery_fault net) turns
+    ∷ first_by (rule_fault net) turns
+    ∷ [])
 
 -- the parts of a net agree
 abbrev pub Agrees : Net → Type 0

@@ -1,5 +1,5 @@
 use Rattle.std.proofs.Common.{rules}
-use Rattle.dc_cli.proofs.PutLemmas.{Puts-then, Puts-stops}
+use Rattle.dc_edge.proofs.PutLemmas.{Puts-then, Puts-stops}
 use Rattle.dc_cli.proofs.fault_line.put_transcript_fault.Goals as goal
 
 pub returns-in-Stations : goal.returns-in-Stations

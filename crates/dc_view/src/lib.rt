@@ -1,0 +1,14 @@
+//! Printed texts: the words of a session, and the view of a run.
+#![tactic(auto)]
+
+mod filling;
+mod lines;
+mod net_text;
+mod pads;
+mod pieces;
+mod rounds;
+mod view;
+mod words;
+
+pub use view::put_view;
+pub use words::put_words;
