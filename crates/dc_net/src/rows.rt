@@ -17,6 +17,7 @@ use dc_script::{Delivery, Said, rule_word_over};
 pub(crate) fn push_row(words: &mut WordList, coalition: &Coalition, stations: u16, honest: &[Word], said: &[Word])
     requires room { length words.old.words + stations ≤ words.old.room }
     ensures room { words.new.room ≡ words.old.room }
+    ensures count { length words.new.words ≡ length words.old.words + stations }
     ensures row { (f : ℕ → List ℕ) → AreWordsOf f (others_of coalition.now stations) honest.now →
         AreWordsOf f (members_of coalition.now stations) said.now →
         words.new.words ≡ words.old.words ++ map f (range_with_len 0 stations) }

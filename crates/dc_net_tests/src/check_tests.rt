@@ -3,13 +3,13 @@ use dc_graph::{Coalition, Graph};
 use dc_keyfile::generate;
 use dc_keys::KeyFile;
 use dc_net::{Net, NetFault, Streams};
-use dc_script::Script;
+use dc_script::{Script, read_script};
 use dc_stream::Stream;
 use std::process::Abort;
 use std::test::*;
 
-/// What a net is made of, with a script without rounds. The keys are generated for a key graph of
-/// their own; a station has an empty stream or none.
+/// What a net is made of. The keys are generated for a key graph of their own; a station has an
+/// empty stream or none; in the script W stands for the zero word.
 #[derive(Clone, Copy)]
 struct Parts<'a> {
     stations: u16,
@@ -19,10 +19,12 @@ struct Parts<'a> {
     key_edges: &'a [(u16, u16)],
     key_words: u16,
     streams: &'a [bool],
+    script: &'a str,
     words: u16,
 }
 
-/// Three stations in a row, the last of which is the coalition.
+/// Three stations in a row, the last of which is the coalition. It sees the honest words of each
+/// round, and in the last one it deals a word to each honest station.
 fn agreed() -> Parts<'static> {
     Parts {
         stations: 3,
@@ -32,6 +34,9 @@ fn agreed() -> Parts<'static> {
         key_edges: &[(0, 1), (1, 2)],
         key_words: 2,
         streams: &[true, true, false],
+        script: "dcscript 2\nround 0\nsay 2 W\nadd 0 00001 1 0 0\nall\n\
+round 1\nsay 2 W\nadd 3 00001 2 0 0\n\
+to 0 W\nadd 0 00001 2 1 0\nto 1 W\n",
         words: 2,
     }
 }
@@ -63,6 +68,19 @@ fn streams<R: AllocGlobal + Abort>(rt: &R, there: &[bool]) -> Streams {
     Streams::from_vec(streams)
 }
 
+/// The script of a text in which W stands for eighty zeros.
+fn script<R: AllocGlobal + Abort>(rt: &R, text: &str) -> Script {
+    let mut bytes = Vec::new(rt.alloc());
+    for c in text.as_bytes() {
+        if *c == b'W' {
+            done(rt, bytes.extend_from_slice([b'0'; 80].as_slice()));
+        } else {
+            done(rt, bytes.push(*c));
+        }
+    }
+    done(rt, read_script(rt.alloc(), bytes.as_slice()))
+}
+
 /// The fault of the net of these parts; None where they agree, and then the net is as it was.
 fn fault_of<R: AllocGlobal + Abort>(rt: &R, parts: &Parts) -> Option<NetFault> {
     let graph = done(rt, Graph::new(rt.alloc(), parts.stations, parts.edges));
@@ -72,7 +90,7 @@ fn fault_of<R: AllocGlobal + Abort>(rt: &R, parts: &Parts) -> Option<NetFault> {
         coalition,
         keys: keys(rt, parts),
         streams: streams(rt, parts.streams),
-        script: Script::empty(rt.alloc(), 1),
+        script: script(rt, parts.script),
         words: parts.words,
     };
     checked(rt, net)
@@ -98,6 +116,18 @@ fn checked<R: Abort>(rt: &R, net: Net) -> Option<NetFault> {
 
 fn refused<R: AllocGlobal + Abort>(rt: &R, parts: Parts, due: NetFault) {
     assert_eq!(rt; fault_of(rt, &parts), Some(due));
+}
+
+#[test]
+fn parts_that_agree(rt: HostRuntime) {
+    assert_eq!(rt; fault_of(&rt, &agreed()), None);
+    let nobody = Parts {
+        members: &[],
+        streams: &[true, true, true],
+        script: "dcscript 1\nround 0\nall\nround 1\nall\n",
+        ..agreed()
+    };
+    assert_eq!(rt; fault_of(&rt, &nobody), None);
 }
 
 #[test]
@@ -158,6 +188,74 @@ fn faults_of_streams(rt: HostRuntime) {
         &rt,
         Parts {
             streams: &[true, true, true],
+            ..agreed()
+        },
+        due,
+    );
+}
+
+#[test]
+fn faults_of_the_script(rt: HostRuntime) {
+    let due = NetFault::ScriptRounds { told: 1, net: 2 };
+    scripted(&rt, &[2], "dcscript 1\nround 0\nall\n", due);
+    let due = NetFault::ScriptStation {
+        round: 1,
+        station: 1,
+    };
+    scripted(
+        &rt,
+        &[2],
+        "dcscript 1\nround 0\nsay 2 W\nall\nround 1\nsay 2 W\nto 0 W\n",
+        due,
+    );
+    let due = NetFault::ScriptStation {
+        round: 0,
+        station: 7,
+    };
+    scripted(
+        &rt,
+        &[2],
+        "dcscript 1\nround 0\nsay 2 W\nsay 7 W\nto 1 W\nround 1\nall\n",
+        due,
+    );
+    let due = NetFault::ScriptDelivery { round: 1 };
+    scripted(
+        &rt,
+        &[],
+        "dcscript 1\nround 0\nall\nround 1\nto 0 W\nto 1 W\nto 2 W\n",
+        due,
+    );
+    let due = NetFault::ScriptRule {
+        round: 0,
+        station: 2,
+    };
+    scripted(
+        &rt,
+        &[2],
+        "dcscript 2\nround 0\nsay 2 W\nadd 0 00001 2 0 0\nall\nround 1\nsay 2 W\nall\n",
+        due,
+    );
+    let due = NetFault::ScriptRule {
+        round: 1,
+        station: 1,
+    };
+    scripted(
+        &rt,
+        &[2],
+        "dcscript 2\nround 0\nsay 2 W\nall\nround 1\nsay 2 W\nto 0 W\nto 1 W\nadd 0 00001 3 0 0\n",
+        due,
+    );
+}
+
+/// The net with this coalition and script is refused.
+fn scripted<R: AllocGlobal + Abort>(rt: &R, members: &[u16], script: &str, due: NetFault) {
+    let streams = [true, true, members.is_empty()];
+    refused(
+        rt,
+        Parts {
+            members,
+            streams: &streams,
+            script,
             ..agreed()
         },
         due,
