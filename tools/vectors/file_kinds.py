@@ -1,7 +1,5 @@
 """Kinds of files: what a format writes, and what its reader reads or refuses. The files are taken apart here, by other code than the program's."""
 
-import re
-
 from .kind import Kind, Unchecked, byte_list, key_pair, listing, local_name, numbers, record, stream, turn, words
 
 # All definitions that these kinds use.
@@ -21,9 +19,16 @@ READ_TRANSCRIPTS = {
     "dc_superpose.specs.declared.fault.TranscriptFault.TheVariants": "Truncated Magic Stations Words Symbol Rest",
 }
 READ_KEYS = {
-    "dc_keyfile.specs.Reading": "pads_of padded pair_of pairs_of keys_after_head keys_with_head keys_from_bytes",
+    "dc_keyfile.specs.Head": "head_of head_from_bytes ends_fault pairs_of body_of",
+    "dc_keyfile.specs.Reading": "pads_of padded pair_of keys_after_head pads_from_bytes keys_from_bytes",
     "dc_keyfile.specs.declared.fault.KeyFault.TheVariants": "Truncated Magic Version Stations Words TooLarge "
     "Pair=NoPair Order Symbol FirstSecondPad Rest",
+}
+READ_SEEDS = {
+    **READ_KEYS,
+    "dc_keyfile.specs.Generator": "expanded_keys",
+    "dc_keyfile.specs.SeedReading": "seed_pair_of seeds_after_head seeds_from_bytes",
+    "dc_formats.specs.SeedFile": "seeds_bytes",
 }
 READ_STREAMS = {
     "std.specs.Fmt": "digits",
@@ -199,20 +204,26 @@ def has_ends(pair, ends):
     return pads == [ends[name] for name in ["u", "v", "a_first", "a_last", "b_first", "b_last"]]
 
 
+def seed_file(data):
+    """The content of a key file of version 2."""
+    pairs = []
+    for place in range(big_endian(data, 8, 4)):
+        at = 12 + 36 * place
+        pairs.append(record(u=big_endian(data, at, 2), v=big_endian(data, at + 2, 2), seed=byte_list(data[at + 4 : at + 36].hex())))
+    return record(stations=big_endian(data, 4, 2), words=big_endian(data, 6, 2), pairs=listing(pairs))
+
+
 def seeds(case):
-    """What is read of a key file of version 1, or of a file that is refused by its first bytes."""
-    if is_second_key_file(case):
-        return None
+    """What both readers read of a key file of either version, and what is written of its seeds. Pads that seeds give are not computed here."""
     data = bytes.fromhex(case["bytes"])
+    claims = [read_claim("seeds_from_bytes", READ_SEEDS, data, case["seeds_fault"], seed_file)]
+    if case["seeds_fault"] is None:
+        claims.append(f"seeds_bytes {seed_file(data)} ≡ {byte_list(case['bytes'])}")
+        claims.append(f"keys_from_bytes {byte_list(case['bytes'])} ≡ Ok (expanded_keys {seed_file(data)})")
+        return claims
     if case["keys_fault"] is None and not all(map(has_ends, pairs_of(data), case["pairs"])):
         raise ValueError("the pads of the line are not those of its file")
-    return [read_claim("keys_from_bytes", READ_KEYS, data, case["keys_fault"], key_file)]
-
-
-def is_second_key_file(case):
-    """Whether a key file has version 2, and is not refused before that shows."""
-    early = case["keys_fault"] is not None and re.search("^magic|need=12$", case["keys_fault"])
-    return bytes.fromhex(case["bytes"])[3:4] == b"\x02" and not early
+    return [*claims, read_claim("keys_from_bytes", READ_SEEDS, data, case["keys_fault"], key_file)]
 
 
 def unchecked_file(case):
@@ -227,10 +238,12 @@ def unchecked_file(case):
 UNCHECKED = {
     "files": unchecked_file,
     "scripts2": lambda case: "scripts of version 2 are not defined yet" if is_second_script(case) else None,
-    "seeds": lambda case: "key files of version 2 are not defined yet" if is_second_key_file(case) else None,
+    "seeds": lambda case: "the pads that seeds give are not computed" if case["seeds_fault"] is None else None,
 }
 
-OPENED_KEYS = "pads_of padded pair_of pairs_of keys_after_head keys_with_head keys_from_bytes"
+OPENED_HEAD = "head_of head_from_bytes ends_fault pairs_of body_of"
+OPENED_KEYS = f"{OPENED_HEAD} pads_of padded pair_of keys_after_head pads_from_bytes keys_from_bytes"
+OPENED_SEEDS = f"{OPENED_KEYS} seed_pair_of seeds_after_head seeds_from_bytes"
 
 KINDS = {
     "transcripts_written": Kind("files", WRITING, "word_of", written("transcript"), 100),
@@ -246,5 +259,5 @@ KINDS = {
     "streams_read": Kind("files", READ_STREAMS, "digits stream_from_bytes", read("stream", "stream_from_bytes", READ_STREAMS), 100),
     "scripts_read": Kind("files", READ_SCRIPTS, "digits word_of script_from_bytes", read("script", "script_from_bytes", READ_SCRIPTS), 100),
     "scripts2": Kind("scripts2", {**READ_SCRIPTS, **WRITING}, "digits word_of script_from_bytes", scripts2, 50),
-    "seeds": Kind("seeds", READ_KEYS, OPENED_KEYS, seeds, 50),
+    "seeds": Kind("seeds", READ_SEEDS, OPENED_SEEDS, seeds, 50),
 }

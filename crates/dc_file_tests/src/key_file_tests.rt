@@ -45,7 +45,12 @@ fn altered_refused<R: Threads + Sync + AllocGlobal + Abort>(
 }
 
 /// The first bytes of this file are refused.
-fn cut_refused<R: Threads + Sync + AllocGlobal + Abort>(rt: &R, file: &Bytes, length: usize, need: u64) {
+fn cut_refused<R: Threads + Sync + AllocGlobal + Abort>(
+    rt: &R,
+    file: &Bytes,
+    length: usize,
+    need: u64,
+) {
     let front = done(rt, file.as_slice().get(..length).ok_or("it is long enough"));
     let at = length as u64;
     refused(rt, front, KeyFault::Truncated { at, need });

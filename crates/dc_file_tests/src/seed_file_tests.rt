@@ -1,7 +1,8 @@
 use crate::answers::{done, fault_of};
 use dc_graph::Graph;
 use dc_keyfile::{
-    KeyFault, SeedFile, element, expand, generate, key_bytes, read_keys, read_seeds, seed_bytes,
+    KeyFault, SeedFile, element, expand, generate, generate_seeds, key_bytes, read_keys,
+    read_seeds, seed_bytes,
 };
 use dc_keys::KeyFile;
 use std::process::Abort;
@@ -72,6 +73,9 @@ fn one_seed_for_all_pairs(rt: HostRuntime) {
     if g.edge_count() != 3 {
         panic!(rt; "three edges");
     }
+    let made = done(&rt, generate_seeds(rt.alloc(), &[0; 32], &g, 5));
+    let spelled = done(&rt, seed_bytes(rt.alloc(), &made));
+    assert_eq!(rt; spelled.as_slice(), bytes.as_slice());
     let due = done(&rt, generate(rt.alloc(), &[0; 32], &g, 5));
     same(&rt, &done(&rt, expand(&rt, rt.alloc(), &seeds)), &due);
     let keys = done(&rt, read_keys(&rt, rt.alloc(), bytes.as_slice()));

@@ -1,5 +1,5 @@
 -- The pads that seeds give, from pieces of sixteen elements.
-use Rattle.std.proofs.Common.{◌≡◌, ℕ, ◌+◌, ◌*◌, ◌/◌, ◌%◌, ◌<◌, ◌≤◌, List, [], ◌∷◌, length, get_or, set, take, drop, map, refl, sym, ap, ◌∙◌, arith}
+use Rattle.std.proofs.Common.{◌≡◌, ℕ, ◌+◌, ◌*◌, ◌/◌, ◌%◌, ◌^◌, ◌<◌, ◌≤◌, List, [], ◌∷◌, length, get_or, set, take, drop, map, refl, sym, ap, ◌∙◌, arith}
 use Rattle.std.specs.List.{range_with_len, flat_map}
 use Rattle.std.proofs.Math.Nat.{mul-le-mul_right}
 use Rattle.std.proofs.lemmas.Nat.{div-mul-add, mod-mul-add}
@@ -9,10 +9,11 @@ use Rattle.std.proofs.lemmas.List.Elements.{All-map}
 use Rattle.rand_chacha.specs.ChaCha.{key_of}
 use Rattle.dc_spec.specs.Pads.{Pair, Keys, SeedPair, Seeds}
 use Rattle.dc_formats.specs.KeyFile.{IsPair, IsKeys}
-use Rattle.dc_formats.specs.SeedFile.{IsSeeds}
+use Rattle.dc_formats.specs.SeedFile.{IsSeedPair, IsSeeds}
 use Rattle.dc_formats.proofs.Ends.{ends_rise, ends_rise_at}
-use Rattle.dc_graph.specs.Graph.{PlainGraph}
-use Rattle.dc_keyfile.specs.Generator.{pair_seed, generated_symbol, element_at, generated_pair, generated_keys, expanded_pair, expanded_keys, seeds_of, elements_from, pieces_of, no_seed, piece_of}
+use Rattle.dc_formats.specs.TextFile.{AreBytes}
+use Rattle.dc_graph.specs.Graph.{PlainGraph, IsGraph}
+use Rattle.dc_keyfile.specs.Generator.{pair_seed, generated_symbol, element_at, generated_pair, generated_keys, expanded_pair, expanded_keys, seeded, seeds_of, elements_from, pieces_of, no_seed, piece_of}
 use Rattle.dc_keyfile.proofs.Generated.{symbol_is_element, IsPair-generated_pair}
 use Rattle.dc_keyfile.proofs.Ranges.{drop-map-range, shifted, in_sixteens, first_set}
 
@@ -122,7 +123,7 @@ IsKeys-expanded_keys f is =
           rw (here, next) (ends_rise_at (λ p. (p.u, p.v)) f.pairs is.rising i no_seed (omega (arith, count))));
     }
 
-same_pairs : (base : List ℕ) (symbols : ℕ) (edges : List (ℕ × ℕ)) → map (expanded_pair symbols) (map (λ e. record { u = e.0; v = e.1; seed = base }) edges) ≡ map (generated_pair base symbols) edges
+same_pairs : (base : List ℕ) (symbols : ℕ) (edges : List (ℕ × ℕ)) → map (expanded_pair symbols) (map (seeded base) edges) ≡ map (generated_pair base symbols) edges
 same_pairs base symbols [] = refl
 same_pairs base symbols (e ∷ edges) = ap (λ (ps : List Pair). generated_pair base symbols e ∷ ps) (same_pairs base symbols edges)
 
@@ -130,3 +131,20 @@ same_pairs base symbols (e ∷ edges) = ap (λ (ps : List Pair). generated_pair 
 pub one_seed : (base : List ℕ) (g : PlainGraph) (words : ℕ) (f : Seeds) → f ≡ seeds_of base g words → expanded_keys f ≡ generated_keys base g words
 one_seed base g words f is =
     ap expanded_keys is ∙ ap (λ (ps : List Pair). record { stations = g.stations; words = words; pairs = ps }) (same_pairs base (16 * words) g.edges)
+
+pub IsSeeds-seeds_of : (base : List ℕ) (g : PlainGraph) (words : ℕ) → length base ≡ 32 → AreBytes base → IsGraph g → 1 ≤ words → words ≤ 4096 → length g.edges * (32 * words) ≤ 2 ^ 26 → IsSeeds (seeds_of base g words)
+IsSeeds-seeds_of base g words long bytes is some most fits =
+    let count : length (map (seeded base) g.edges) ≡ length g.edges = length-map g.edges (seeded base) in
+    record {
+      some_stations = is.some_stations;
+      most_stations = is.most_stations;
+      some_words = some;
+      most_words = most;
+      most_symbols = rw count fits;
+      are_pairs = All-map (IsSeedPair g.stations) (seeded base) g.edges (λ i d lt. let edge = is.are_edges i d lt in record { ends = edge.ends; within = edge.within; seed_length = long; seed_bytes = bytes });
+      rising = ends_rise (λ p. (p.u, p.v)) (map (seeded base) g.edges) (λ i d lt.
+          let here = get_or-map (seeded base) g.edges i (0, 0) d (omega (arith, count)) in
+          let next = get_or-map (seeded base) g.edges (i + 1) (0, 0) d (omega (arith, count)) in
+          let before = is.rising i (0, 0) (omega (arith, count)) in
+          rw (here, next) (record { lesser = before.lesser; greater = before.greater }));
+    }

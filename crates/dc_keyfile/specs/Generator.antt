@@ -41,13 +41,13 @@ expanded_pair symbols p = generated_pair p.seed symbols (p.u, p.v)
 abbrev pub expanded_keys : Seeds → Keys
 expanded_keys f = record { stations = f.stations; words = f.words; pairs = map (expanded_pair (16 * f.words)) f.pairs }
 
+-- the pair of an edge with this seed
+abbrev pub seeded : List ℕ → ℕ × ℕ → SeedPair
+seeded base e = record { u = e.0; v = e.1; seed = base }
+
 -- the key file of seeds in which each edge of a key graph has the same seed
 abbrev pub seeds_of : List ℕ → PlainGraph → ℕ → Seeds
-seeds_of base g words = record {
-  stations = g.stations;
-  words = words;
-  pairs = map (λ e. record { u = e.0; v = e.1; seed = base }) g.edges;
-}
+seeds_of base g words = record { stations = g.stations; words = words; pairs = map (seeded base) g.edges }
 
 -- ---- pieces of sixteen elements
 

@@ -5,8 +5,9 @@ ghost use Rattle.std.specs.List.{range_with_len};
 ghost use Rattle.std.specs.Int.{w16, to_be_bytes};
 ghost use Rattle.dc_spec.specs.Limits.{most_pads, most_words};
 ghost use Rattle.dc_spec.specs.Words.{IsSymbol};
-ghost use Rattle.dc_keyfile.specs.Generator.{pair_seed, generated_symbol, element_at, generated_pair, generated_keys};
+ghost use Rattle.dc_keyfile.specs.Generator.{pair_seed, generated_symbol, element_at, generated_pair, generated_keys, seeded, seeds_of};
 
+use crate::seed_file::{SeedFile, SeedPair, SeedPairs};
 use dc_field::{NoMemory, Sym, Syms};
 use dc_graph::Graph;
 use dc_keys::{KeyFile, PairKey, Pairs};
@@ -40,6 +41,41 @@ pub fn generate(alloc: Global, base: &[u8; 32], g: &Graph, words: u16) -> Result
         words,
         pairs,
     })
+}
+
+/// The key file of seeds in which each edge of a key graph has the base seed, for a session of
+/// `words` words. Its expansion is what `generate` gives. The rule is this project's own.
+pub fn generate_seeds(
+    alloc: Global,
+    base: &[u8; 32],
+    g: &Graph,
+    words: u16,
+) -> Result<SeedFile, NoMemory>
+    requires some_words { 1 ≤ words }
+    requires most_words { words ≤ most_words }
+    requires most_symbols { length g.now.edges * (32 * words) ≤ most_pads }
+    ensures { IfOk result (λ f. f ≡ seeds_of base.now g.now words) }
+{
+    let pairs = seed_pairs(alloc, base, g)?;
+    Ok(SeedFile {
+        stations: g.stations(),
+        words,
+        pairs,
+    })
+}
+
+/// A pair with this seed for each edge, in the order of the edges.
+fn seed_pairs(alloc: Global, base: &[u8; 32], g: &Graph) -> Result<SeedPairs, NoMemory>
+    ensures { IfOk result (λ ps. ps ≡ map (seeded base.now) g.now.edges) }
+{
+    let count = g.edge_count();
+    let mut pairs = Vec::with_capacity(alloc, count as usize)?;
+    for i in 0..count {
+        let (u, v) = g.edge(i);
+        let seed = *base;
+        pairs.push(SeedPair { u, v, seed })?;
+    }
+    Ok(SeedPairs::from_vec(pairs))
 }
 
 /// A pair for each edge, in the order of the edges.

@@ -12,7 +12,7 @@ mod writing;
 
 pub use expansion::expand;
 pub use fault::KeyFault;
-pub use generator::{element, generate};
+pub use generator::{element, generate, generate_seeds};
 pub use reading::read_keys;
 pub use seed_file::{SeedFile, SeedPair, SeedPairs};
 pub use seed_reading::read_seeds;
