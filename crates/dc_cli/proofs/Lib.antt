@@ -4,6 +4,5 @@ pub mod CommandLemmas
 pub mod RanLemmas
 pub mod ShelfLemmas
 pub mod MakingLemmas
-pub mod SeedLemmas
 pub mod PromiseLemmas
 mod Rows

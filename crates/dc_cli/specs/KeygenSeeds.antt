@@ -1,7 +1,6 @@
 -- The command `keygen --seeds`: a manifest is read, and the key file of seeds of its net is written.
 use Rattle.std.specs.Prelude.{ℕ, List, Result, Ok, Err}
 use Rattle.dc_spec.specs.Limits.{manifest_limit}
-use Rattle.dc_spec.specs.Pads.{SeedPair}
 use Rattle.dc_formats.specs.SeedFile.{seeds_bytes}
 use Rattle.dc_keyfile.specs.Generator.{seeds_of}
 use Rattle.dc_manifest.specs.Content.{Content}
@@ -10,10 +9,6 @@ use Rattle.dc_manifest.specs.declared.fault.ManifestFault.{ManifestFault}
 use Rattle.dc_cli.specs.Making.{Making}
 use Rattle.dc_cli.specs.declared.outcome.FileFault.{FileFault}
 use Rattle.dc_cli.specs.declared.outcome.FileFault.TheVariants.{Manifest}
-
--- an edge with a seed
-abbrev pub seeded_edge : List ℕ → ℕ × ℕ → SeedPair
-seeded_edge seed e = record { u = e.0; v = e.1; seed = seed }
 
 -- the key file in which each edge of a manifest's graph has this seed, or the manifest's fault
 abbrev pub seeds_for : List ℕ → Result Content ManifestFault → Result (List ℕ) FileFault

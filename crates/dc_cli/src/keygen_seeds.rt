@@ -1,19 +1,18 @@
 //! The command `keygen --seeds`.
 
-ghost use Rattle.std.specs.Prelude.{◌≡◌, IfOk, map};
+ghost use Rattle.std.specs.Prelude.{◌≡◌, IfOk};
 ghost use Rattle.dc_spec.specs.Limits.{manifest_limit};
 ghost use Rattle.dc_formats.specs.SeedFile.{seeds_bytes};
 ghost use Rattle.dc_keyfile.specs.Generator.{seeds_of};
 ghost use Rattle.dc_cli.specs.Making.{MadeOfBytes, MadeOfFile, MakesOf};
-ghost use Rattle.dc_cli.specs.KeygenSeeds.{seeded_file, seeds_making, seeded_edge};
+ghost use Rattle.dc_cli.specs.KeygenSeeds.{seeded_file, seeds_making};
 
 use crate::outcome::{FileFault, Outcome};
 use crate::reading::{malformed, read_file};
 use crate::writing::write_file;
 use dc_edge::Shelf;
 use dc_field::{Bytes, MANIFEST_LIMIT, NoMemory, Refusal};
-use dc_graph::Graph;
-use dc_keyfile::{SeedFile, SeedPair, SeedPairs, seed_bytes};
+use dc_keyfile::{generate_seeds, seed_bytes};
 use dc_manifest::{Manifest, read_manifest};
 use std::alloc::Global;
 
@@ -66,31 +65,6 @@ fn seeded_bytes(alloc: Global, seed: &[u8; 32], manifest: &Manifest) -> Result<B
     ensures { IfOk result (λ bytes. bytes ≡
         seeds_bytes (seeds_of seed.now manifest.now.graph manifest.now.words)) }
 {
-    let file = seed_file(alloc, seed, manifest)?;
-    seed_bytes(alloc, &file)
-}
-
-/// The key file in which each edge of a manifest's graph has this seed.
-fn seed_file(alloc: Global, seed: &[u8; 32], manifest: &Manifest) -> Result<SeedFile, NoMemory>
-    ensures { IfOk result (λ f. f ≡ seeds_of seed.now manifest.now.graph manifest.now.words) }
-{
-    let pairs = seed_pairs(alloc, seed, &manifest.graph)?;
-    Ok(SeedFile {
-        stations: manifest.graph.stations(),
-        words: manifest.words,
-        pairs,
-    })
-}
-
-/// A pair with this seed for each edge, in the order of the edges.
-fn seed_pairs(alloc: Global, seed: &[u8; 32], graph: &Graph) -> Result<SeedPairs, NoMemory>
-    ensures { IfOk result (λ ps. ps ≡ map (seeded_edge seed.now) graph.now.edges) }
-{
-    let count = graph.edge_count();
-    let mut pairs = Vec::with_capacity(alloc, count as usize)?;
-    for i in 0..count {
-        let (u, v) = graph.edge(i);
-        pairs.push(SeedPair { u, v, seed: *seed })?;
-    }
-    Ok(SeedPairs::from_vec(pairs))
+    let seeds = generate_seeds(alloc, seed, &manifest.graph, manifest.words)?;
+    seed_bytes(alloc, &seeds)
 }
