@@ -158,8 +158,17 @@ fn key_files_that_are_not_written(rt: HostRuntime) -> Result<(), Fail> {
         3,
         b"dcnet: no: missing\n",
     )?;
-    let seeds = seeded(&rt)?;
-    given.file = &seeds[..119];
+    Ok(())
+}
+
+#[test]
+fn a_short_key_file_is_malformed(rt: HostRuntime) -> Result<(), Fail> {
+    let mut seeds = seeded(&rt)?;
+    seeds.truncate(119);
+    let given = Given {
+        file: &seeds,
+        shelf_fails: &[],
+    };
     let fault = b"dcnet: in: malformed: truncated at=119 need=120\n";
     refuses(&rt, &["migrate", "in", "out"], given, 5, fault)?;
     Ok(())
