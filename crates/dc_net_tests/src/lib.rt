@@ -5,3 +5,5 @@
 mod answers;
 #[cfg(test)]
 mod check_tests;
+#[cfg(test)]
+mod run_tests;
