@@ -2,7 +2,9 @@
 #![tactic(auto)]
 
 mod filling;
+mod gathering;
 mod lines;
+mod logs;
 mod net_text;
 mod pads;
 mod pieces;
@@ -10,5 +12,6 @@ mod rounds;
 mod view;
 mod words;
 
+pub use logs::{put_logs, put_station};
 pub use view::put_view;
 pub use words::put_words;

@@ -57,7 +57,7 @@ fn put_rounds<K: Sink>(
 }
 
 /// The stations that are no members, in rising order.
-fn honest_of(coalition: &Coalition, stations: u16) -> ArrayVec<u16, STATIONS>
+pub(crate) fn honest_of(coalition: &Coalition, stations: u16) -> ArrayVec<u16, STATIONS>
     requires { stations ≤ 256 }
     ensures { result.items
         ≡ filter (λ i. not (is_among coalition.now i)) (range_with_len 0 stations) }
