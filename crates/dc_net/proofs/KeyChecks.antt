@@ -9,7 +9,7 @@ use Rattle.dc_graph.specs.Graph.{AreRisingEdges}
 use Rattle.dc_net_rules.specs.Agreement.{key_missing, key_stray, missing_key, stray_key}
 use Rattle.dc_net.specs.declared.fault.NetFault.TheVariants.{KeyMissing, KeyStray}
 use Rattle.dc_net.specs.Walks.{are_same_ends, first_absent}
-use Rattle.dc_net.specs.Tests.{told}
+use Rattle.dc_net.specs.Tests.{as_fault}
 
 -- the two stations of a pair
 abbrev pub pair_ends : Pair → ℕ × ℕ
@@ -48,24 +48,24 @@ stray_same (p ∷ ps) es = elim (list_any (λ e. eqb e.0 p.u && eqb e.1 p.v) es)
     ≡ option_map (λ e. key_stray e.0 e.1) (cond (not b) (Some (pair_ends p)) (first_absent (map pair_ends ps) es)))
     [ true ↦ stray_same ps es | false ↦ refl ]
 
-told_missing : (o : Option (ℕ × ℕ)) → told (option_map (λ e. key_missing e.0 e.1) o) ≡ option_map (λ e. KeyMissing e.0 e.1) o
-told_missing None = refl
-told_missing (Some e) = refl
+fault_missing : (o : Option (ℕ × ℕ)) → as_fault (option_map (λ e. key_missing e.0 e.1) o) ≡ option_map (λ e. KeyMissing e.0 e.1) o
+fault_missing None = refl
+fault_missing (Some e) = refl
 
-told_stray : (o : Option (ℕ × ℕ)) → told (option_map (λ e. key_stray e.0 e.1) o) ≡ option_map (λ e. KeyStray e.0 e.1) o
-told_stray None = refl
-told_stray (Some e) = refl
+fault_stray : (o : Option (ℕ × ℕ)) → as_fault (option_map (λ e. key_stray e.0 e.1) o) ≡ option_map (λ e. KeyStray e.0 e.1) o
+fault_stray None = refl
+fault_stray (Some e) = refl
 
-pub missing_told : (net : Net) (es : List (ℕ × ℕ)) (ps : List Pair) (o : Option (ℕ × ℕ)) → es ≡ net.edges → ps ≡ net.keys.pairs
-    → o ≡ first_absent (map (λ e. e) es) (map pair_ends ps) → option_map (λ e. KeyMissing e.0 e.1) o ≡ told (missing_key net)
-missing_told net es ps o edges pairs is =
+pub missing_fault_is : (net : Net) (es : List (ℕ × ℕ)) (ps : List Pair) (o : Option (ℕ × ℕ)) → es ≡ net.edges → ps ≡ net.keys.pairs
+    → o ≡ first_absent (map (λ e. e) es) (map pair_ends ps) → option_map (λ e. KeyMissing e.0 e.1) o ≡ as_fault (missing_key net)
+missing_fault_is net es ps o edges pairs is =
     let found : o ≡ first_absent net.edges (map pair_ends net.keys.pairs) =
     is ∙ ap (λ x. first_absent x (map pair_ends ps)) (map-id es ∙ edges) ∙ ap (λ x. first_absent net.edges (map pair_ends x)) pairs in
-    ap (λ x. option_map (λ e. KeyMissing e.0 e.1) x) (found ∙ sym (missing_same net.edges net.keys.pairs)) ∙ sym (told_missing _)
+    ap (λ x. option_map (λ e. KeyMissing e.0 e.1) x) (found ∙ sym (missing_same net.edges net.keys.pairs)) ∙ sym (fault_missing _)
 
-pub stray_told : (net : Net) (es : List (ℕ × ℕ)) (ps : List Pair) (o : Option (ℕ × ℕ)) → es ≡ net.edges → ps ≡ net.keys.pairs
-    → o ≡ first_absent (map pair_ends ps) (map (λ e. e) es) → option_map (λ e. KeyStray e.0 e.1) o ≡ told (stray_key net)
-stray_told net es ps o edges pairs is =
+pub stray_fault_is : (net : Net) (es : List (ℕ × ℕ)) (ps : List Pair) (o : Option (ℕ × ℕ)) → es ≡ net.edges → ps ≡ net.keys.pairs
+    → o ≡ first_absent (map pair_ends ps) (map (λ e. e) es) → option_map (λ e. KeyStray e.0 e.1) o ≡ as_fault (stray_key net)
+stray_fault_is net es ps o edges pairs is =
     let found : o ≡ first_absent (map pair_ends net.keys.pairs) net.edges =
     is ∙ ap (λ x. first_absent (map pair_ends ps) x) (map-id es ∙ edges) ∙ ap (λ x. first_absent (map pair_ends x) net.edges) pairs in
-    ap (λ x. option_map (λ e. KeyStray e.0 e.1) x) found ∙ sym (told_stray _) ∙ sym (ap told (stray_same net.keys.pairs net.edges))
+    ap (λ x. option_map (λ e. KeyStray e.0 e.1) x) found ∙ sym (fault_stray _) ∙ sym (ap as_fault (stray_same net.keys.pairs net.edges))

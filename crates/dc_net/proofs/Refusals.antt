@@ -5,8 +5,8 @@ use Rattle.dc_spec.proofs.Options.{some-inj}
 use Rattle.dc_net_rules.specs.Agreement.{Disagreement, disagreement}
 use Rattle.dc_net.specs.declared.fault.NetFault.{NetFault}
 use Rattle.dc_net.specs.Checked.{Disagrees}
-use Rattle.dc_net.specs.Tests.{told}
+use Rattle.dc_net.specs.Tests.{as_fault}
 
-pub refuses : (net : Net) (o : Option Disagreement) (fault : NetFault) → disagreement net ≡ o → Some fault ≡ told o → Disagrees net fault
+pub refuses : (net : Net) (o : Option Disagreement) (fault : NetFault) → disagreement net ≡ o → Some fault ≡ as_fault o → Disagrees net fault
 refuses net None fault is e = absurd (cc)
-refuses net (Some found) fault is e = record { found = found; is_first = is; told = some-inj e }
+refuses net (Some found) fault is e = record { found = found; is_first = is; stands = some-inj e }

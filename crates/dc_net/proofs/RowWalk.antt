@@ -1,16 +1,13 @@
 -- The walk over all stations of a round: members and the others, each in their own list.
-use Rattle.std.proofs.Common.{◌≡◌, ℕ, zero, suc, ◌+◌, ◌-◌, ◌<◌, ◌≤◌, Bool, true, false, cond, not, List, [], ◌∷◌, ◌++◌, length, get_or, map, drop, filter, refl, sym, ap, subst, ◌∙◌, arith, append_assoc}
+use Rattle.std.proofs.Common.{◌≡◌, ℕ, suc, ◌+◌, ◌-◌, ◌<◌, ◌≤◌, Bool, true, false, cond, not, List, [], ◌∷◌, ◌++◌, length, get_or, map, drop, filter, sym, ap, ◌∙◌, arith, append_assoc}
 use Rattle.std.specs.List.{range_with_len}
 use Rattle.std.proofs.lemmas.List.{drop-drop, get_or-drop, length-drop, length_push}
 use Rattle.std.proofs.lemmas.List.FromFn.{map-range_with_len_more}
 use Rattle.dc_spec.specs.Words.{zero_word}
 use Rattle.dc_spec.specs.Lists.{is_among}
+use Rattle.dc_net.proofs.FirstBy.{numbers_left}
 use Rattle.dc_net.specs.WordList.{Kept}
 use Rattle.dc_net.specs.Rows.{members_of, others_of, AreWordsOf}
-
--- the numbers from i on are i and those after it
-range_from : (n i : ℕ) → i < n → range_with_len i (n - i) ≡ i ∷ range_with_len (i + 1) (n - (i + 1))
-range_from n i below = let e : n - i ≡ suc (n - (i + 1)) = omega arith in ap (λ (m : ℕ). range_with_len i m) e
 
 -- where the rest of a list is x and more, x is its next item
 next_item : (xs rest : List ℕ) (j x : ℕ) → drop j xs ≡ x ∷ rest → (j < length xs) × ((get_or xs j 0 ≡ x) × (drop (j + 1) xs ≡ rest))
@@ -20,18 +17,17 @@ next_item xs rest j x is =
     (omega arith, (sym first ∙ ap (λ (ys : List ℕ). get_or ys 0 0) is, sym (drop-drop 1 j xs) ∙ ap (λ (ys : List ℕ). drop 1 ys) is))
 
 -- a station that passes is the next item of the list of those that pass
-passing : (p : ℕ → Bool) (xs : List ℕ) (n i j : ℕ) → i < n → drop j xs ≡ filter p (range_with_len i (n - i)) → p i ≡ true
+pub passing : (p : ℕ → Bool) (xs : List ℕ) (n i j : ℕ) → i < n → drop j xs ≡ filter p (range_with_len i (n - i)) → p i ≡ true
     → (j < length xs) × ((get_or xs j 0 ≡ i) × (drop (j + 1) xs ≡ filter p (range_with_len (i + 1) (n - (i + 1)))))
 passing p xs n i j below rest passes =
-    let more = filter p (range_with_len (i + 1) (n - (i + 1))) in
-    next_item xs (filter p (range_with_len (i + 1) (n - (i + 1)))) j i (rest ∙ ap (λ (ys : List ℕ). filter p ys) (range_from n i below)
+    next_item xs (filter p (range_with_len (i + 1) (n - (i + 1)))) j i (rest ∙ ap (λ (ys : List ℕ). filter p ys) (numbers_left i n below)
     ∙ ap (λ (b : Bool). cond b (i ∷ filter p (range_with_len (i + 1) (n - (i + 1)))) (filter p (range_with_len (i + 1) (n - (i + 1))))) passes)
 
 -- a station that does not pass is passed over
-passed_over : (p : ℕ → Bool) (xs : List ℕ) (n i j : ℕ) → i < n → drop j xs ≡ filter p (range_with_len i (n - i)) → p i ≡ false
+pub passed_over : (p : ℕ → Bool) (xs : List ℕ) (n i j : ℕ) → i < n → drop j xs ≡ filter p (range_with_len i (n - i)) → p i ≡ false
     → drop j xs ≡ filter p (range_with_len (i + 1) (n - (i + 1)))
 passed_over p xs n i j below rest fails =
-    rest ∙ ap (λ (ys : List ℕ). filter p ys) (range_from n i below)
+    rest ∙ ap (λ (ys : List ℕ). filter p ys) (numbers_left i n below)
     ∙ ap (λ (b : Bool). cond b (i ∷ filter p (range_with_len (i + 1) (n - (i + 1)))) (filter p (range_with_len (i + 1) (n - (i + 1))))) fails
 
 -- the stations that come after the first i, and the words of the first i

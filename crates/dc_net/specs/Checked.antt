@@ -16,7 +16,7 @@ pub record IsChecked (net : Net) : Type 0 where
 pub record Disagrees (net : Net) (fault : NetFault) : Type 0 where
   pub found : Disagreement
   pub is_first : disagreement net ≡ Some found
-  pub told : fault ≡ fault_of found
+  pub stands : fault ≡ fault_of found
 
 -- the net itself where its parts agree, and else the fault of their first disagreement
 abbrev pub Checks : Net → Result Net NetFault → Type 0

@@ -8,8 +8,8 @@ use Rattle.dc_net.specs.declared.fault.NetFault.{NetFault}
 use Rattle.dc_net.specs.Faults.{fault_of}
 
 -- the fault that stands for a disagreement, where there is one
-abbrev pub told : Option Disagreement → Option NetFault
-told found = option_map fault_of found
+abbrev pub as_fault : Option Disagreement → Option NetFault
+as_fault found = option_map fault_of found
 
 -- the key file is for as many stations
 abbrev pub stations_test : Net → Option Disagreement

@@ -3,7 +3,7 @@
 ghost use Rattle.std.specs.Prelude.{◌≡◌, ◌<◌, length, All};
 ghost use Rattle.dc_net_rules.specs.Agreement.{disagreement};
 ghost use Rattle.dc_net.specs.Checked.{IsChecked, Checks};
-ghost use Rattle.dc_net.specs.Tests.{told};
+ghost use Rattle.dc_net.specs.Tests.{as_fault};
 
 use crate::fault::NetFault;
 use crate::key_checks::keys_fault;
@@ -61,7 +61,7 @@ impl Net {
 fn net_fault(net: &Net) -> Option<NetFault>
     requires streams { length net.now.streams ≡ net.now.stations }
     requires members { All (λ m. m < net.now.stations) net.now.coalition }
-    ensures { result ≡ told (disagreement net.now) }
+    ensures { result ≡ as_fault (disagreement net.now) }
 {
     if let Some(fault) = keys_fault(net) {
         return Some(fault);

@@ -62,7 +62,7 @@ pub enum NetFault {
         /// The first such round.
         round: u16,
     },
-    /// A term names a station that there is not; or, in a word said, the word of a member in the same
+    /// A term names a station that there is not, or, in a word said, a member's word of the same
     /// round.
     ScriptRule {
         /// The first round with such a term.
@@ -71,7 +71,8 @@ pub enum NetFault {
         /// dealt.
         station: u16,
     },
-    /// A command names a station that the key file does not have. The check of a net never gives it.
+    /// A command names a station that the key file does not have. The check of a net never gives
+    /// it.
     NoStation {
         /// The number that was named.
         station: u16,

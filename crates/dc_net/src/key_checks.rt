@@ -2,7 +2,7 @@
 
 ghost use Rattle.std.specs.Prelude.{◌≡◌};
 ghost use Rattle.dc_net_rules.specs.Agreement.{missing_key, stray_key};
-ghost use Rattle.dc_net.specs.Tests.{told, sizes_test, keys_test};
+ghost use Rattle.dc_net.specs.Tests.{as_fault, sizes_test, keys_test};
 
 use crate::ends::first_absent;
 use crate::fault::NetFault;
@@ -10,7 +10,7 @@ use crate::net::Net;
 
 /// The first fault of the keys.
 pub(crate) fn keys_fault(net: &Net) -> Option<NetFault>
-    ensures { result ≡ told (keys_test net.now) }
+    ensures { result ≡ as_fault (keys_test net.now) }
 {
     if let Some(fault) = sizes_fault(net) {
         return Some(fault);
@@ -23,7 +23,7 @@ pub(crate) fn keys_fault(net: &Net) -> Option<NetFault>
 
 /// Whether the key file is for another number of stations, and then of words.
 fn sizes_fault(net: &Net) -> Option<NetFault>
-    ensures { result ≡ told (sizes_test net.now) }
+    ensures { result ≡ as_fault (sizes_test net.now) }
 {
     let keys = &net.keys;
     let stations = net.graph.stations();
@@ -44,7 +44,7 @@ fn sizes_fault(net: &Net) -> Option<NetFault>
 
 /// The first edge without a pair. Edges and pairs are in rising order.
 fn missing_key(net: &Net) -> Option<NetFault>
-    ensures { result ≡ told (missing_key net.now) }
+    ensures { result ≡ as_fault (missing_key net.now) }
 {
     let keys = &net.keys;
     let absent = first_absent(net.graph.edges(), keys.pairs.as_slice());
@@ -56,7 +56,7 @@ fn missing_key(net: &Net) -> Option<NetFault>
 
 /// The first pair that is no edge.
 fn stray_key(net: &Net) -> Option<NetFault>
-    ensures { result ≡ told (stray_key net.now) }
+    ensures { result ≡ as_fault (stray_key net.now) }
 {
     let keys = &net.keys;
     let absent = first_absent(keys.pairs.as_slice(), net.graph.edges());

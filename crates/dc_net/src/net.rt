@@ -10,7 +10,8 @@ use std::marker::Model;
 /// The stream of each station that has one, by station.
 pub type Streams = Items<Option<Stream>>;
 
-/// A net. Nothing is said yet on whether its parts agree. Contracts see the protocol's record of it.
+/// A net. Nothing is said yet on whether its parts agree. Contracts see the protocol's record of
+/// it.
 #[derive(Drop)]
 pub struct Net {
     /// The stations and edges.

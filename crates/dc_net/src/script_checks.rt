@@ -5,7 +5,7 @@ ghost use Rattle.dc_formats.specs.ScriptFile.{IsTurn};
 ghost use Rattle.dc_net_rules.specs.Runs.{honest_stations};
 ghost use Rattle.dc_net_rules.specs.Agreement.{station_fault, delivery_fault};
 ghost use Rattle.dc_net.specs.Stations.{AreFlags};
-ghost use Rattle.dc_net.specs.Tests.{told, rounds_test, stations_tests, deliveries_test, rules_test, script_test};
+ghost use Rattle.dc_net.specs.Tests.{as_fault, rounds_test, stations_tests, deliveries_test, rules_test, script_test};
 
 use crate::fault::NetFault;
 use crate::net::Net;
@@ -18,7 +18,7 @@ use dc_script::{Delivery, Round};
 pub(crate) fn script_fault(net: &Net, flags: &[bool; STATIONS], honest: &[u16]) -> Option<NetFault>
     requires flags { AreFlags net.now.coalition flags.now }
     requires honest { honest.now ≡ honest_stations net.now }
-    ensures { result ≡ told (script_test net.now) }
+    ensures { result ≡ as_fault (script_test net.now) }
 {
     if let Some(fault) = rounds_fault(net) {
         return Some(fault);
@@ -34,7 +34,7 @@ pub(crate) fn script_fault(net: &Net, flags: &[bool; STATIONS], honest: &[u16]) 
 
 /// Whether the script has another number of rounds than the session has words.
 fn rounds_fault(net: &Net) -> Option<NetFault>
-    ensures { result ≡ told (rounds_test net.now) }
+    ensures { result ≡ as_fault (rounds_test net.now) }
 {
     let script = &net.script;
     let rounds = script.rounds.as_slice().len() as u32;
@@ -50,7 +50,7 @@ fn rounds_fault(net: &Net) -> Option<NetFault>
 /// The first round whose words are not those of the members, or of the honest stations.
 fn stations_fault(net: &Net, honest: &[u16]) -> Option<NetFault>
     requires { honest.now ≡ honest_stations net.now }
-    ensures { result ≡ told (stations_tests net.now) }
+    ensures { result ≡ as_fault (stations_tests net.now) }
 {
     let script = &net.script;
     let rounds = script.rounds.as_slice();
@@ -67,7 +67,7 @@ fn stations_fault(net: &Net, honest: &[u16]) -> Option<NetFault>
 fn station_fault(net: &Net, honest: &[u16], round: u16, turn: &Round) -> Option<NetFault>
     requires honest { honest.now ≡ honest_stations net.now }
     requires turn { IsTurn round turn.now }
-    ensures { result ≡ told (station_fault net.now (round, turn.now)) }
+    ensures { result ≡ as_fault (station_fault net.now (round, turn.now)) }
 {
     match wrong_station(net, honest, turn) {
         Some(station) => Some(NetFault::ScriptStation { round, station }),
@@ -77,7 +77,7 @@ fn station_fault(net: &Net, honest: &[u16], round: u16, turn: &Round) -> Option<
 
 /// The first round that delivers something else than the sum where there is no coalition.
 fn deliveries_fault(net: &Net) -> Option<NetFault>
-    ensures { result ≡ told (deliveries_test net.now) }
+    ensures { result ≡ as_fault (deliveries_test net.now) }
 {
     let script = &net.script;
     let rounds = script.rounds.as_slice();
@@ -92,7 +92,7 @@ fn deliveries_fault(net: &Net) -> Option<NetFault>
 
 /// The fault of the delivery of one round.
 fn delivery_fault(net: &Net, round: u16, turn: &Round) -> Option<NetFault>
-    ensures { result ≡ told (delivery_fault net.now (round, turn.now)) }
+    ensures { result ≡ as_fault (delivery_fault net.now (round, turn.now)) }
 {
     match turn.delivery {
         Delivery::Sum => None,
@@ -109,7 +109,7 @@ fn delivery_fault(net: &Net, round: u16, turn: &Round) -> Option<NetFault>
 /// The first round with a faulty term.
 fn rules_fault(net: &Net, flags: &[bool; STATIONS]) -> Option<NetFault>
     requires { AreFlags net.now.coalition flags.now }
-    ensures { result ≡ told (rules_test net.now) }
+    ensures { result ≡ as_fault (rules_test net.now) }
 {
     let script = &net.script;
     let rounds = script.rounds.as_slice();

@@ -5,7 +5,7 @@ ghost use Rattle.dc_net_rules.specs.Agreement.{first_of, names_no_station, names
 ghost use Rattle.dc_spec.specs.Scripts.{each};
 ghost use Rattle.dc_script.specs.Delivered.{delivered};
 ghost use Rattle.dc_net.specs.Stations.{AreFlags};
-ghost use Rattle.dc_net.specs.Tests.{told, is_said_by_faulty_rule, is_dealt_by_faulty_rule};
+ghost use Rattle.dc_net.specs.Tests.{as_fault, is_said_by_faulty_rule, is_dealt_by_faulty_rule};
 
 use crate::fault::NetFault;
 use crate::net::Net;
@@ -20,7 +20,7 @@ pub(crate) fn rule_fault(
     turn: &Round,
 ) -> Option<NetFault>
     requires { AreFlags net.now.coalition flags.now }
-    ensures { result ≡ told (rule_fault net.now (round, turn.now)) }
+    ensures { result ≡ as_fault (rule_fault net.now (round, turn.now)) }
 {
     match faulty_word(net, flags, round, turn) {
         Some(station) => Some(NetFault::ScriptRule { round, station }),
@@ -99,7 +99,8 @@ fn is_faulty_dealt(net: &Net, said: &Said) -> bool
 /// round.
 fn is_faulty_in_say(net: &Net, flags: &[bool; STATIONS], round: u16, term: &Term) -> bool
     requires { AreFlags net.now.coalition flags.now }
-    ensures { result ≡ (names_no_station net.now term.now || names_member_now net.now round term.now) }
+    ensures { result ≡
+        (names_no_station net.now term.now || names_member_now net.now round term.now) }
 {
     is_no_station(net, term) || (term.round == round && is_member(flags, term.station))
 }

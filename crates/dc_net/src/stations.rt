@@ -33,7 +33,8 @@ pub(crate) fn is_member(flags: &[bool; STATIONS], station: u16) -> bool
 /// Those of the first stations that are no members, in rising order.
 pub(crate) fn honest_of(stations: u16, flags: &[bool; STATIONS]) -> ArrayVec<u16, STATIONS>
     requires { stations ≤ most_stations }
-    ensures { result.items ≡ filter (λ i. not (slice_index_or flags.now i false)) (range_with_len 0 stations) }
+    ensures { result.items ≡
+        filter (λ i. not (slice_index_or flags.now i false)) (range_with_len 0 stations) }
 {
     let mut honest = ArrayVec::new();
     for station in 0..stations {

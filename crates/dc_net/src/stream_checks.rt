@@ -3,7 +3,7 @@
 ghost use Rattle.std.specs.Prelude.{◌≡◌, ◌<◌, length};
 ghost use Rattle.dc_net_rules.specs.Agreement.{stream_fault};
 ghost use Rattle.dc_net.specs.Stations.{AreFlags};
-ghost use Rattle.dc_net.specs.Tests.{told, streams_test};
+ghost use Rattle.dc_net.specs.Tests.{as_fault, streams_test};
 
 use crate::fault::NetFault;
 use crate::net::Net;
@@ -13,7 +13,7 @@ use crate::stations::{STATIONS, is_member};
 pub(crate) fn streams_fault(net: &Net, flags: &[bool; STATIONS]) -> Option<NetFault>
     requires streams { length net.now.streams ≡ net.now.stations }
     requires flags { AreFlags net.now.coalition flags.now }
-    ensures { result ≡ told (streams_test net.now) }
+    ensures { result ≡ as_fault (streams_test net.now) }
 {
     let stations = net.graph.stations();
     for station in 0..stations {
@@ -29,7 +29,7 @@ pub(crate) fn streams_fault(net: &Net, flags: &[bool; STATIONS]) -> Option<NetFa
 fn stream_fault(net: &Net, flags: &[bool; STATIONS], station: u16) -> Option<NetFault>
     requires station { station < length net.now.streams }
     requires flags { AreFlags net.now.coalition flags.now }
-    ensures { result ≡ told (stream_fault net.now station) }
+    ensures { result ≡ as_fault (stream_fault net.now station) }
 {
     let streams = net.streams.as_slice();
     let is_there = streams[usize::from(station)].is_some();

@@ -86,14 +86,19 @@ all_agree net agrees =
       rules = none_along (rule_fault net) (enumerate_from 0 net.script.rounds) i.0;
     }
 
--- an honest station has a stream
-pub has_stream : (net : Net) → Agrees net → (i : ℕ) → i < net.stations → is_among net.coalition i ≡ false → is_some (slice_index_or net.streams i None) ≡ true
-has_stream net agrees i below honest =
+-- what both tests of a stream say
+stream_due : (member there : Bool) (stray missing : Disagreement) → (if member then (if there then Some stray else None) else (if there then None else Some missing)) ≡ None → there ≡ not member
+stream_due true true stray missing h = let clash : ⊥ = cc in absurd clash
+stream_due true false stray missing h = refl
+stream_due false true stray missing h = refl
+stream_due false false stray missing h = let clash : ⊥ = cc in absurd clash
+
+-- the stations that have a stream are the honest ones
+pub has_stream : (net : Net) → Agrees net → (i : ℕ) → i < net.stations → is_some (slice_index_or net.streams i None) ≡ not (is_among net.coalition i)
+has_stream net agrees i below =
     let at : stream_fault net i ≡ None = subst (λ (k : ℕ). stream_fault net k ≡ None) (get_or-range_with_len 0 net.stations i 0 below ∙ (let e : 0 + i ≡ i = omega arith in e))
     ((all_agree net agrees).streams i 0 (let e = length-range_with_len 0 net.stations in omega arith)) in
-    let there = is_some (slice_index_or net.streams i None) in
-    test_holds (is_some (slice_index_or net.streams i None)) (stream_missing i)
-    (subst (λ (b : Bool). (if b then (if is_some (slice_index_or net.streams i None) then Some (stream_stray i) else None) else (if is_some (slice_index_or net.streams i None) then None else Some (stream_missing i))) ≡ None) honest at)
+    stream_due (is_among net.coalition i) (is_some (slice_index_or net.streams i None)) (stream_stray i) (stream_missing i) at
 
 -- lists of which neither has a number that the other lacks have the same numbers
 no_least : (xs : List ℕ) (f : ℕ → ℕ → ℕ) → reduce f xs ≡ None → xs ≡ []

@@ -45,3 +45,8 @@ history_more played round i = map_push (λ r. word_of_station r.received i) play
 -- a station received a word in each round
 pub length-history : (net : Net) (t i : ℕ) → length (history (rounds_of net t) i) ≡ t
 length-history net t i = length-map (rounds_of net t) (λ r. word_of_station r.received i) ∙ length-rounds_of net t
+
+-- before the first round
+pub rounds_none : (net : Net) → rounds_of net 0 ≡ []
+unfolding rounds_of
+rounds_none net = refl

@@ -1,3 +1,9 @@
 pub mod Delivered
 pub mod Quiet
 pub mod Rules
+pub mod Items
+pub mod Progress
+pub mod Lines
+pub mod Turns
+pub mod Reading
+pub mod TurnReading
