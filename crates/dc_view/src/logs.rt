@@ -11,7 +11,7 @@ ghost use Rattle.dc_station_rules.specs.Stations.{log_of, pending_counts, sent_o
 ghost use Rattle.dc_view.specs.Gathering.{Gathers};
 
 use crate::gathering::{gather_number, gather_number_line, gather_payload_line};
-use crate::rounds::honest_of;
+use crate::honest::honest_of;
 use dc_edge::{Failed, Sink};
 use dc_net::{CheckedNet, Played};
 use dc_station::{Log, Pending, Station};
@@ -49,7 +49,7 @@ pub fn put_station<K: Sink>(i: u16, st: &Station, out: &mut K) -> Result<(), Fai
     ensures { (stream : StreamValue) (total : ℕ) (words : List (List ℕ)) →
         StandsFor st.now stream total words →
         Puts (station_text i (log_of words) (sent_of stream words) (pending_counts stream words))
-            (K.state out.old) (K.state out.new) result }
+        (K.state out.old) (K.state out.new) result }
 {
     put_one(i, st.log(), st.sent(), st.pending(), out)
 }
