@@ -68,8 +68,8 @@ fn streams<R: AllocGlobal + Abort>(rt: &R, there: &[bool]) -> Streams {
     Streams::from_vec(streams)
 }
 
-/// The script of a text in which W stands for eighty zeros.
-fn script<R: AllocGlobal + Abort>(rt: &R, text: &str) -> Script {
+/// The bytes of a text in which W stands for eighty zeros.
+pub(crate) fn spelled<R: AllocGlobal + Abort>(rt: &R, text: &str) -> Vec<u8> {
     let mut bytes = Vec::new(rt.alloc());
     for c in text.as_bytes() {
         if *c == b'W' {
@@ -78,7 +78,15 @@ fn script<R: AllocGlobal + Abort>(rt: &R, text: &str) -> Script {
             done(rt, bytes.push(*c));
         }
     }
-    done(rt, read_script(rt.alloc(), bytes.as_slice()))
+    bytes
+}
+
+/// The script of a text in which W stands for the zero word.
+fn script<R: AllocGlobal + Abort>(rt: &R, text: &str) -> Script {
+    done(
+        rt,
+        read_script(rt.alloc(), spelled(rt, text).as_slice()),
+    )
 }
 
 /// The net of these parts.
