@@ -1,1 +1,5 @@
 pub mod Admitting
+pub mod PlainSymbols
+pub mod KeyedSums
+pub mod Permuted
+pub mod PadSums
