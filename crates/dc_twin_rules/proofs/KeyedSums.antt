@@ -4,6 +4,7 @@ use Rattle.std.specs.List.{All, AllPairs, list_any, range_with_len}
 use Rattle.std.proofs.lemmas.Bool.{and_parts}
 use Rattle.std.proofs.lemmas.List.Elements.{All-head, All-tail}
 use Rattle.std.proofs.lemmas.List.Folds.{Any-from_list_any}
+use Rattle.std.proofs.lemmas.List.FromFn.{get_or-range_with_len, length-range_with_len}
 use Rattle.std.proofs.lemmas.List.Sums.{sum_by-cons}
 use Rattle.dc_spec.proofs.SumLemmas.{sum_by-same, sum_by-plus, sum_by-zero, sum_by-single}
 
@@ -62,3 +63,11 @@ sum_by-mod_plus f g h (x ∷ xs) same =
     let two = sum_by-cons g x xs in
     let three = sum_by-cons h x xs in
     omega arith
+
+-- what holds of each number below a count holds of each item of their list
+pub all_range : (P : ℕ → Type 0) (n : ℕ) → ((w : ℕ) → w < n → P w) → All P (range_with_len 0 n)
+all_range P n each k d within =
+    let size = length-range_with_len 0 n in
+    let low : k < n = omega arith in
+    let at : get_or (range_with_len 0 n) k d ≡ k = get_or-range_with_len 0 n k d low ∙ (let e : 0 + k ≡ k = omega arith in e) in
+    subst P (sym at) (each k low)
