@@ -7,3 +7,6 @@ pub mod TreeEdges
 pub mod Shifting
 pub mod KeyGains
 pub mod PartSums
+pub mod Histories
+pub mod Changes
+pub mod StationRounds

@@ -45,10 +45,10 @@ place-image n p is i low =
     (λ k less. ne_eqb (slice_index p i) (get_or p k 0) (λ same. is.distinct k i 0 less (omega arith) (sym same)))
     (λ within. eq-eqb (slice_index p i) (get_or p i 0) refl)
 
-length-inverse : (n : ℕ) (p : List ℕ) → IsPermutationOf n p → length (inverse p) ≡ n
+pub length-inverse : (n : ℕ) (p : List ℕ) → IsPermutationOf n p → length (inverse p) ≡ n
 length-inverse n p is = length-map-range_with_len (λ image. position_or_len (nat_eq image) p) 0 (length p) ∙ is.count
 
-inverse-at : (n : ℕ) (p : List ℕ) → IsPermutationOf n p → (w d : ℕ) → w < n → get_or (inverse p) w d ≡ position_or_len (nat_eq w) p
+pub inverse-at : (n : ℕ) (p : List ℕ) → IsPermutationOf n p → (w d : ℕ) → w < n → get_or (inverse p) w d ≡ position_or_len (nat_eq w) p
 inverse-at n p is w d low = let count = is.count in get_or-map-range_with_len (λ image. position_or_len (nat_eq image) p) 0 (length p) w w d (omega arith) (omega arith)
 
 -- an image is a station
