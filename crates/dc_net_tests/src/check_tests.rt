@@ -83,10 +83,7 @@ pub(crate) fn spelled<R: AllocGlobal + Abort>(rt: &R, text: &str) -> Vec<u8> {
 
 /// The script of a text in which W stands for the zero word.
 fn script<R: AllocGlobal + Abort>(rt: &R, text: &str) -> Script {
-    done(
-        rt,
-        read_script(rt.alloc(), spelled(rt, text).as_slice()),
-    )
+    done(rt, read_script(rt.alloc(), spelled(rt, text).as_slice()))
 }
 
 /// The net of these parts.

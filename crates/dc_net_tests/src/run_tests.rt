@@ -29,7 +29,11 @@ fn group(count: u32, total: u32) -> Option<Word> {
 }
 
 /// The net of these parts, in which each station that has a stream sends a value.
-pub(crate) fn sending<R: AllocGlobal + Abort>(rt: &R, parts: &Parts, values: &[u128]) -> CheckedNet {
+pub(crate) fn sending<R: AllocGlobal + Abort>(
+    rt: &R,
+    parts: &Parts,
+    values: &[u128],
+) -> CheckedNet {
     let mut net = net_of(rt, parts);
     let mut streams = Vec::new(rt.alloc());
     for number in values {
