@@ -10,3 +10,4 @@ pub mod PartSums
 pub mod Histories
 pub mod Changes
 pub mod StationRounds
+pub mod Rounds
