@@ -31,7 +31,8 @@ push_reserved-requires c =
     let stations = c.stations-i-end.ensures.value ∙ ap (λ (n : Net). n.stations) c.net.view_is in
     let streams = c.as_slice-streams.ensures ∙ ap (λ (n : Net). n.streams) c.net.view_is in
     let below : c.loop-i.i < c.args.net.now.stations = let low = c.loop-i-test.true in omega arith in
-    let read = stream_read c.args.net.now c.as_slice-streams.result.now c.from.result c.loop-i.i c.index-streams-from.result c.requires.checked below streams c.from.ensures c.index-streams-from.is in
+    let read = stream_read c.args.net.now c.as_slice-streams.result.now c.from.result c.loop-i.i c.index-streams-from.result c.requires.checked below streams c.from.ensures
+    c.index-streams-from.is in
     let room = room_for_seat c.args.net.now c.loop-i.seats.items c.loop-i.i c.in-Some.stream c.requires.checked below c.loop-i.invariant.seated (read
     ∙ c.in-Some.is) in
     let long = c.loop-i.seats.ok in let all = c.loop-i.invariant.room in let count = c.requires.count in omega arith
@@ -41,7 +42,8 @@ loop-i-preserved c =
     let stations = c.stations-i-end.ensures.value ∙ ap (λ (n : Net). n.stations) c.net.view_is in
     let streams = c.as_slice-streams.ensures ∙ ap (λ (n : Net). n.streams) c.net.view_is in
     let below : c.loop-i.i < c.args.net.now.stations = let low = c.loop-i-test.true in omega arith in
-    let read = stream_read c.args.net.now c.as_slice-streams.result.now c.from.result c.loop-i.i c.index-streams-from.result c.requires.checked below streams c.from.ensures c.index-streams-from.is in
+    let read = stream_read c.args.net.now c.as_slice-streams.result.now c.from.result c.loop-i.i c.index-streams-from.result c.requires.checked below streams c.from.ensures
+    c.index-streams-from.is in
     elim c.match-streams-from.branch [
       | in-Some+in_ok-seat w ↦ rw w.seats-is (record {
         seated = subst (λ xs. Seated c.args.net.now xs (c.loop-i.i + 1)) (sym {A = List SeatState} w.push_reserved.ensures.items)

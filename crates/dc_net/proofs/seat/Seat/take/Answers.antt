@@ -9,7 +9,14 @@ use Rattle.dc_net.proofs.seat.Seat.take.Goals as goal
 
 pub invariant_of-self : goal.invariant_of-self
 invariant_of-self c =
-    let seat : SeatState = record { stream = c.self.inside.stream.now; keys = c.self.inside.file.now; station = c.self.inside.station; received = column c.self.inside.seats c.self.inside.place c.self.inside.heard.value.words; place = c.self.inside.place; seats = c.self.inside.seats } in
+    let seat : SeatState = record {
+      stream = c.self.inside.stream.now;
+      keys = c.self.inside.file.now;
+      station = c.self.inside.station;
+      received = column c.self.inside.seats c.self.inside.place c.self.inside.heard.value.words;
+      place = c.self.inside.place;
+      seats = c.self.inside.seats;
+    } in
     let heard = c.args.heard.now.words in
     let next : HearsNext heard seat = subst (λ (s : SeatState). HearsNext heard s) (sym c.self.view_is) c.requires in
     let stands = SeatStandsFor-more heard seat c.index-words-words.result _ c.receive.new.self _ c.take.new.self _ c.take-2.new.self c.self.invariant next
