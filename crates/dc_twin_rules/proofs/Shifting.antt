@@ -27,7 +27,7 @@ abbrev pub with_shift : Option Shift → Pair → Pair
 with_shift o pair = option_map_or (λ (s : Shift). record pair { a = pads_add pair.a (symbols s.words) }) o pair
 
 -- pairs with the same ends have the same shift
-shift-same : (ps : List (Option ℕ)) (sums : List (List (List ℕ))) (x y : Pair) → x.u ≡ y.u → x.v ≡ y.v → shift_of ps sums x ≡ shift_of ps sums y
+pub shift-same : (ps : List (Option ℕ)) (sums : List (List (List ℕ))) (x y : Pair) → x.u ≡ y.u → x.v ≡ y.v → shift_of ps sums x ≡ shift_of ps sums y
 shift-same ps sums x y same_u same_v =
     ap (λ (a : ℕ). shift_of ps sums (record { u = a; v = x.v; a = []; b = [] })) same_u ∙ ap (λ (b : ℕ). shift_of ps sums (record { u = y.u; v = b; a = []; b = [] })) same_v
 
@@ -89,7 +89,7 @@ sixteen-at below are c = elim (cases_lt c (length below)) [
 abbrev pub shift_word : ℕ → ℕ → List (List ℕ) → List ℕ
 shift_word u child below = cond (child == u) (word_of_station below child) (word_sub zero_word (word_of_station below child))
 
-sixteen-shift : (u child : ℕ) (below : List (List ℕ)) → AreSixteens below → length (shift_word u child below) ≡ 16
+pub sixteen-shift : (u child : ℕ) (below : List (List ℕ)) → AreSixteens below → length (shift_word u child below) ≡ 16
 sixteen-shift u child below are = by_case (child == u)
   where
     by_case : (b : Bool) → length (cond b (word_of_station below child) (word_sub zero_word (word_of_station below child))) ≡ 16
