@@ -1,5 +1,5 @@
 -- The twin of a twin by the inverse permutation is the first net.
-use Rattle.std.proofs.Common.{◌≡◌, ℕ, zero, suc, ◌+◌, ◌-◌, ◌*◌, ◌/◌, ◌%◌, ◌<◌, ◌≤◌, ◌==◌, Bool, true, false, cond, List, [], ◌∷◌, length, map, take, sum_by, get_or, slice_index, slice_index_or, option_map, Option, Some, None, refl, sym, ◌∙◌, ap, subst, inl, inr, arith}
+use Rattle.std.proofs.Common.{◌≡◌, ℕ, ◌+◌, ◌-◌, ◌*◌, ◌/◌, ◌%◌, ◌<◌, ◌≤◌, ◌==◌, Bool, true, false, cond, List, [], ◌∷◌, length, map, take, get_or, slice_index, slice_index_or, option_map, Option, Some, None, refl, sym, ◌∙◌, ap, subst, inl, inr, arith}
 use Rattle.std.specs.List.{All, range_with_len}
 use Rattle.std.proofs.Math.ListN.{get_or-eq_default}
 use Rattle.std.proofs.lemmas.Bool.{cases_lt}
@@ -21,7 +21,7 @@ use Rattle.dc_station_rules.specs.Stations.{plain_word}
 use Rattle.dc_net_rules.specs.Nets.{IsNet}
 use Rattle.dc_net_rules.specs.Runs.{Round, word_of_station, station_stream, history, all_rounds, IsAlike}
 use Rattle.dc_net_rules.proofs.Agreeing.{all_agree}
-use Rattle.dc_twin_rules.specs.Twins.{Shift, Admits, inverse, moved, demand, demands_in, tree_shift, child_end, twin}
+use Rattle.dc_twin_rules.specs.Twins.{Shift, Admits, inverse, demands_in, tree_shift, child_end, twin}
 use Rattle.dc_twin_rules.proofs.Admitting.{stands}
 use Rattle.dc_twin_rules.proofs.KeyedSums.{sum_by-mod_plus}
 use Rattle.dc_twin_rules.proofs.PadSums.{pads_add-at, length-pads_add, symbols-at}
@@ -53,8 +53,8 @@ streams-back net p is admits =
     let count = length-map back place in
     let of_net = is.streams in
     ext_get_or None (map place back) net.streams (omega arith) (λ i within. (let low : i < n = omega arith in
-        get_or-map place back i 0 None (omega arith) ∙ ap place (inverse-inverse n p permutes i low) ∙ moved-place net p permutes (slice_index p i) (image-below n p permutes i low)
-        ∙ ap (λ (k : ℕ). slice_index_or net.streams k None) (back-there n p permutes i low)))
+    get_or-map place back i 0 None (omega arith) ∙ ap place (inverse-inverse n p permutes i low) ∙ moved-place net p permutes (slice_index p i) (image-below n p permutes i low)
+    ∙ ap (λ (k : ℕ). slice_index_or net.streams k None) (back-there n p permutes i low)))
 
 -- the demands are the opposites
 opposite-demands : (net : Net) (p : List ℕ) → IsNet net → Admits net p → (played : List Round) (t w l : ℕ) → w < net.stations → l < 16 →
@@ -69,10 +69,10 @@ opposite-demands net p is admits played t w l low few =
     let one : slice_index (word_of_station (demands_in net p played t) w) l ≡ (G w + (65537 - G k)) % 65537 = ap (λ (v : List ℕ). slice_index v l) (demand-at net p played t w low) ∙ demand-symbol net p permutes w low h l few in
     let own : station_stream (twin net p) w ≡ station_stream net k = moved-stream net p permutes w low in
     let other : station_stream (twin net p) (slice_index (inverse (inverse p)) w) ≡ station_stream net w = ap (λ (i : ℕ). station_stream (twin net p) i) (inverse-inverse n p permutes w low)
-        ∙ moved-stream net p permutes (slice_index p w) image ∙ ap (λ (i : ℕ). station_stream net i) (back-there n p permutes w low) in
+    ∙ moved-stream net p permutes (slice_index p w) image ∙ ap (λ (i : ℕ). station_stream net i) (back-there n p permutes w low) in
     let two : slice_index (word_of_station (demands_in (twin net p) (inverse p) played t) w) l ≡ (G k + (65537 - G w)) % 65537 = ap (λ (v : List ℕ). slice_index v l) (demand-at (twin net p) (inverse p) played t w low)
-        ∙ demand-symbol (twin net p) (inverse p) (inverse-permutes n p permutes) w low h l few
-        ∙ (λ i. (slice_index (plain_word (own i) h) l + (65537 - slice_index (plain_word (other i) h) l)) % 65537) in
+    ∙ demand-symbol (twin net p) (inverse p) (inverse-permutes n p permutes) w low h l few
+    ∙ (λ i. (slice_index (plain_word (own i) h) l + (65537 - slice_index (plain_word (other i) h) l)) % 65537) in
     let small_w : G w < 65537 = plain-below net is w low h l few in
     let small_k : G k < 65537 = plain-below net is k (inverse-below n p permutes w low) h l few in
     omega arith
@@ -108,9 +108,9 @@ opposite-below g d d' l few each c = elim (cases_lt c g.stations) [
     by_case false v v' e e' =
         let stations = stations_below (parents g) c in
         let sums = opposite-sums (λ w. slice_index_or d w zero_word) (λ w. slice_index_or d' w zero_word) stations l few
-            (λ k x less. each (get_or stations k x) (let bound : get_or stations k x < 0 + length (parents g) = below_range 0 (length (parents g)) (get_or stations k x)
-                (kept_stands (λ w. is_among (chain (parents g) (length (parents g)) w) c) (range_with_len 0 (length (parents g))) (get_or stations k x) (stands stations k x less)) in
-                let count = length-parents g in omega arith)) in
+        (λ k x less. each (get_or stations k x) (let bound : get_or stations k x < 0 + length (parents g) = below_range 0 (length (parents g)) (get_or stations k x)
+        (kept_stands (λ w. is_among (chain (parents g) (length (parents g)) w) c) (range_with_len 0 (length (parents g))) (get_or stations k x) (stands stations k x less)) in
+        let count = length-parents g in omega arith)) in
         (λ i. (slice_index (e i) l + slice_index (e' i) l) % 65537) ∙ sums
 
 -- the sums below a station, in the net and for the way back
@@ -154,24 +154,24 @@ pads-back net p is alike admits a u child size good =
     let once = length-pads_add a xs (omega arith) in
     let twice = length-pads_add (pads_add a xs) ys (omega arith) in
     ext_get_or 0 (pads_add (pads_add a xs) ys) a (omega arith) (λ n within.
-        (let t = n / 16 in
-            let l = n % 16 in
-            let few : l < 16 = omega arith in
-            let place : n ≡ 16 * t + l = omega arith in
-            let round : t < net.words = omega arith in
-            let here : n < length a = omega arith in
-            let number = length-map sums (shift_word u child) in
-            let number' = length-map sums' (shift_word u child) in
-            let x : slice_index xs n ≡ slice_index (shift_word u child (get_or sums t [])) l = symbols-at (map (shift_word u child) sums) (sixteen-shifts u child sums (sixteen-sums net p)) t l n place few (omega arith)
-                ∙ ap (λ (w : List ℕ). slice_index w l) (get_or-map (shift_word u child) sums t [] [] (omega arith)) in
-            let y : slice_index ys n ≡ slice_index (shift_word u child (get_or sums' t [])) l = symbols-at (map (shift_word u child) sums') (sixteen-shifts u child sums' (sixteen-sums (twin net p) (inverse p))) t l n place few (omega arith)
-                ∙ ap (λ (w : List ℕ). slice_index w l) (get_or-map (shift_word u child) sums' t [] [] (omega arith)) in
-            let low : slice_index (word_of_station (get_or sums t []) child) l < 65537 = subst (λ (ws : List (List ℕ)). slice_index (word_of_station ws child) l < 65537) (sym (sums-at net p t round)) (below-symbol (key_graph net) (demands_in net p (all_rounds net) t) child l few) in
-            let low' : slice_index (word_of_station (get_or sums' t []) child) l < 65537 = subst (λ (ws : List (List ℕ)). slice_index (word_of_station ws child) l < 65537) (sym (sums-at (twin net p) (inverse p) t round))
-                (below-symbol (key_graph net) (demands_in (twin net p) (inverse p) (all_rounds (twin net p)) t) child l few) in
-            let zero_sum = opposite-words u child l (get_or sums t []) (get_or sums' t []) few low low' (opposite-rounds net p is alike admits t round l few child) in
-            pads_add-at (pads_add a xs) ys n 0 (omega arith) (omega arith) ∙ ap (λ (s : ℕ). (s + slice_index ys n) % 65537) (pads_add-at a xs n 0 here (omega arith))
-            ∙ symbol-back (slice_index a n) (slice_index xs n) (slice_index ys n) (good n 0 here) (ap (λ (s : ℕ). (s + slice_index ys n) % 65537) x ∙ ap (λ (s : ℕ). (slice_index (shift_word u child (get_or sums t [])) l + s) % 65537) y ∙ zero_sum)))
+    (let t = n / 16 in
+    let l = n % 16 in
+    let few : l < 16 = omega arith in
+    let place : n ≡ 16 * t + l = omega arith in
+    let round : t < net.words = omega arith in
+    let here : n < length a = omega arith in
+    let number = length-map sums (shift_word u child) in
+    let number' = length-map sums' (shift_word u child) in
+    let x : slice_index xs n ≡ slice_index (shift_word u child (get_or sums t [])) l = symbols-at (map (shift_word u child) sums) (sixteen-shifts u child sums (sixteen-sums net p)) t l n place few (omega arith)
+    ∙ ap (λ (w : List ℕ). slice_index w l) (get_or-map (shift_word u child) sums t [] [] (omega arith)) in
+    let y : slice_index ys n ≡ slice_index (shift_word u child (get_or sums' t [])) l = symbols-at (map (shift_word u child) sums') (sixteen-shifts u child sums' (sixteen-sums (twin net p) (inverse p))) t l n place few (omega arith)
+    ∙ ap (λ (w : List ℕ). slice_index w l) (get_or-map (shift_word u child) sums' t [] [] (omega arith)) in
+    let low : slice_index (word_of_station (get_or sums t []) child) l < 65537 = subst (λ (ws : List (List ℕ)). slice_index (word_of_station ws child) l < 65537) (sym (sums-at net p t round)) (below-symbol (key_graph net) (demands_in net p (all_rounds net) t) child l few) in
+    let low' : slice_index (word_of_station (get_or sums' t []) child) l < 65537 = subst (λ (ws : List (List ℕ)). slice_index (word_of_station ws child) l < 65537) (sym (sums-at (twin net p) (inverse p) t round))
+    (below-symbol (key_graph net) (demands_in (twin net p) (inverse p) (all_rounds (twin net p)) t) child l few) in
+    let zero_sum = opposite-words u child l (get_or sums t []) (get_or sums' t []) few low low' (opposite-rounds net p is alike admits t round l few child) in
+    pads_add-at (pads_add a xs) ys n 0 (omega arith) (omega arith) ∙ ap (λ (s : ℕ). (s + slice_index ys n) % 65537) (pads_add-at a xs n 0 here (omega arith))
+    ∙ symbol-back (slice_index a n) (slice_index xs n) (slice_index ys n) (good n 0 here) (ap (λ (s : ℕ). (s + slice_index ys n) % 65537) x ∙ ap (λ (s : ℕ). (slice_index (shift_word u child (get_or sums t [])) l + s) % 65537) y ∙ zero_sum)))
 
 -- and each pair
 pair-back : (net : Net) (p : List ℕ) → IsNet net → IsAlike net → Admits net p → (q : Pair) → length q.a ≡ 16 * net.words → All (λ x. x < 65537) q.a → changed (twin net p) (inverse p) (changed net p q) ≡ q

@@ -1,5 +1,5 @@
 -- Histories of a run: their beginnings, and those of an alike run.
-use Rattle.std.proofs.Common.{◌≡◌, ℕ, zero, suc, ◌+◌, ◌-◌, ◌%◌, ◌<◌, ◌≤◌, not, Bool, true, false, cond, List, [], ◌∷◌, ◌++◌, length, map, take, get_or, slice_index, slice_index_or, Option, Some, None, refl, sym, ◌∙◌, ap, subst, inl, inr, arith, zero-le, eq-or-lt_of_le}
+use Rattle.std.proofs.Common.{◌≡◌, ℕ, zero, suc, ◌+◌, ◌-◌, ◌%◌, ◌<◌, ◌≤◌, not, false, List, [], ◌∷◌, take, slice_index, slice_index_or, Option, Some, None, refl, sym, ◌∙◌, ap, subst, inl, inr, arith, zero-le, eq-or-lt_of_le}
 use Rattle.std.specs.List.{All, range_with_len}
 use Rattle.std.specs.Option.{unwrap_or}
 use Rattle.std.proofs.lemmas.List.{get_or-map, take-map, take_all, take-append-le}
@@ -7,7 +7,7 @@ use Rattle.std.proofs.lemmas.List.Elements.{All-head, All-tail, All-take, All-ni
 use Rattle.std.proofs.lemmas.List.FromFn.{get_or-map-range_with_len}
 use Rattle.dc_spec.specs.Entries.{IsMessage, Stream}
 use Rattle.dc_spec.specs.Values.{IsValue}
-use Rattle.dc_spec.specs.Words.{IsWord, zero_word, word_sub}
+use Rattle.dc_spec.specs.Words.{IsWord, zero_word}
 use Rattle.dc_spec.specs.Net.{Net}
 use Rattle.dc_spec.specs.Lists.{is_among}
 use Rattle.dc_spec.proofs.ListLemmas.{passes_kept, in_range}
@@ -15,10 +15,10 @@ use Rattle.dc_spec.proofs.WordLemmas.{IsWord-word_of, symbol-word_of}
 use Rattle.dc_formats.specs.StreamFile.{IsStream}
 use Rattle.dc_station_rules.specs.Stations.{plain_word}
 use Rattle.dc_net_rules.specs.Nets.{IsNet}
-use Rattle.dc_net_rules.specs.Runs.{Round, word_of_station, station_stream, history, rounds_of, all_rounds, next_round, honest_stations, IsHonest, IsAlikeIn, IsAlike}
+use Rattle.dc_net_rules.specs.Runs.{Round, word_of_station, station_stream, history, rounds_of, all_rounds, next_round, IsHonest, IsAlikeIn, IsAlike}
 use Rattle.dc_net_rules.proofs.RoundLemmas.{length-rounds_of}
 use Rattle.dc_twin_rules.specs.Twins.{IsPermutationOf, inverse, moved, demand, demands_in}
-use Rattle.dc_twin_rules.proofs.Permuted.{length-inverse, inverse-below}
+use Rattle.dc_twin_rules.proofs.Permuted.{length-inverse}
 use Rattle.dc_twin_rules.proofs.PlainSymbols.{IsFit, plain-symbol}
 
 -- the first rounds of a run

@@ -1,31 +1,30 @@
 -- A twin is a net of the files.
-use Rattle.std.proofs.Common.{◌≡◌, ℕ, zero, suc, ◌+◌, ◌-◌, ◌*◌, ◌%◌, ◌<◌, ◌≤◌, ◌==◌, ◌&&◌, ◌||◌, not, if◌then◌else◌, Bool, true, false, cond, List, [], ◌∷◌, length, map, find, get_or, option_map, slice_index, slice_index_or, Option, Some, None, refl, sym, ◌∙◌, ap, subst, inl, inr, arith, true≢false}
+use Rattle.std.proofs.Common.{◌≡◌, ℕ, ◌*◌, ◌%◌, ◌<◌, ◌≤◌, ◌==◌, ◌&&◌, ◌||◌, not, if◌then◌else◌, Bool, true, false, cond, List, [], ◌∷◌, length, map, find, get_or, option_map, slice_index, slice_index_or, Option, Some, None, refl, sym, ◌∙◌, ap, subst, inl, inr, arith, true≢false}
 use Rattle.std.specs.List.{All, range_with_len, list_any, enumerate_from}
 use Rattle.std.specs.Option.{is_some}
-use Rattle.std.proofs.Math.ListN.{get_or-eq_default}
 use Rattle.std.proofs.lemmas.Bool.{and_parts, cases_Bool, not-true}
-use Rattle.std.proofs.lemmas.List.{get_or-map, length-map}
-use Rattle.std.proofs.lemmas.List.Elements.{All-map, All-weaker}
+use Rattle.std.proofs.lemmas.List.{length-map}
+use Rattle.std.proofs.lemmas.List.Elements.{All-map}
 use Rattle.std.proofs.lemmas.Option.{none-some}
 use Rattle.dc_spec.proofs.Options.{some-inj}
 use Rattle.dc_spec.specs.Lists.{is_among}
 use Rattle.dc_spec.specs.Entries.{Stream}
-use Rattle.dc_spec.specs.Pads.{Pair, Keys}
+use Rattle.dc_spec.specs.Pads.{Pair}
 use Rattle.dc_spec.specs.Words.{IsSymbol}
 use Rattle.dc_spec.specs.Net.{Net}
 use Rattle.dc_formats.specs.KeyFile.{IsPair, IsKeys, AreEndsRising}
 use Rattle.dc_formats.specs.StreamFile.{IsStream}
-use Rattle.dc_graph_rules.specs.Graphs.{KeyGraph, key_graph, has_edge, are_neighbours, IsWalk, AreJoined}
-use Rattle.dc_graph_rules.specs.Forests.{parents, is_parent}
+use Rattle.dc_graph_rules.specs.Graphs.{KeyGraph, key_graph, has_edge, IsWalk, AreJoined}
+use Rattle.dc_graph_rules.specs.Forests.{parents}
 use Rattle.dc_key_rules.specs.PairKeys.{symbols, pads_add}
 use Rattle.dc_net_rules.specs.Nets.{IsNet}
 use Rattle.dc_net_rules.specs.Agreement.{Disagreement, key_stations, key_words, key_missing, key_stray, script_rounds, Agrees, missing_key, stray_key, stream_fault, stream_stray, stream_missing, station_fault, delivery_fault, rule_fault, first_of, first_by}
 use Rattle.dc_net_rules.proofs.Agreeing.{all_agree, has_stream}
-use Rattle.dc_twin_rules.specs.Twins.{Shift, Admits, inverse, moved, tree_shift, child_end, twin}
+use Rattle.dc_twin_rules.specs.Twins.{Shift, Admits, inverse, tree_shift, child_end, twin}
 use Rattle.dc_twin_rules.proofs.PadSums.{pads_add-at, length-pads_add}
 use Rattle.dc_twin_rules.proofs.Permuted.{length-inverse, inverse-below, inverse-permutes, back-there, there-back}
 use Rattle.dc_twin_rules.proofs.KeyedSums.{all_range}
-use Rattle.dc_twin_rules.proofs.Shifting.{with_shift, shift_of, kept-u, kept-v, kept-b, length-shift, shift_word}
+use Rattle.dc_twin_rules.proofs.Shifting.{with_shift, shift_of, kept-u, kept-v, length-shift}
 use Rattle.dc_twin_rules.proofs.PartSums.{walk-honest, joined-sym}
 use Rattle.dc_twin_rules.proofs.Histories.{moved-place}
 use Rattle.dc_twin_rules.proofs.Changes.{map-same, changed, sums_of, sixteen-sums, length-sums_of, twin-pairs}
@@ -87,7 +86,7 @@ changed-keys net p is =
       most_symbols = subst (λ (n : ℕ). n * (32 * net.keys.words) ≤ 67108864) (sym (length-map net.keys.pairs (changed net p))) keys.most_symbols;
       are_pairs = All-map (IsPair net.keys.stations net.keys.words) (changed net p) net.keys.pairs
           (λ k d low. shifted-is_pair net.keys.stations net.keys.words (shift_of (parents (key_graph net)) (sums_of net p) (get_or net.keys.pairs k d)) (get_or net.keys.pairs k d)
-            (λ s e. shift-size net p (get_or net.keys.pairs k d) (child_end (parents (key_graph net)) (get_or net.keys.pairs k d)) s e ∙ ap (λ (n : ℕ). 16 * n) (sym words)) (keys.are_pairs k d low));
+          (λ s e. shift-size net p (get_or net.keys.pairs k d) (child_end (parents (key_graph net)) (get_or net.keys.pairs k d)) s e ∙ ap (λ (n : ℕ). 16 * n) (sym words)) (keys.are_pairs k d low));
       rising = subst (λ (es : List (ℕ × ℕ)). AreEndsRising es) (sym (map-ends (changed net p) (changed-u net p) (changed-v net p) net.keys.pairs)) keys.rising;
     }
 

@@ -1,5 +1,5 @@
 -- Each number of a plain word is a symbol.
-use Rattle.std.proofs.Common.{◌≡◌, ℕ, zero, suc, ◌+◌, ◌-◌, ◌*◌, ◌<◌, ◌==◌, Bool, true, false, cond, nat_lt, List, [], ◌∷◌, length, map, get_or, slice_index, Option, Some, None, sym, subst, arith}
+use Rattle.std.proofs.Common.{◌≡◌, ℕ, zero, suc, ◌+◌, ◌*◌, ◌<◌, ◌==◌, Bool, true, false, cond, nat_lt, List, [], ◌∷◌, length, slice_index, Option, Some, None, sym, subst, arith}
 use Rattle.std.specs.List.{All}
 use Rattle.std.proofs.lemmas.List.{get_or-map}
 use Rattle.std.proofs.lemmas.List.Elements.{All-head, All-drop}
@@ -7,7 +7,7 @@ use Rattle.dc_spec.specs.Words.{zero_word}
 use Rattle.dc_spec.specs.Entries.{IsMessage, Stream}
 use Rattle.dc_spec.specs.Values.{IsValue, contended_word}
 use Rattle.dc_spec.proofs.WordLemmas.{symbol-word_of}
-use Rattle.dc_station_rules.specs.Bursts.{fragment_count, burst_bytes, fragment}
+use Rattle.dc_station_rules.specs.Bursts.{fragment_count, fragment}
 use Rattle.dc_station_rules.specs.Epochs.{Epoch, epoch_of, calls}
 use Rattle.dc_station_rules.specs.Cycles.{Cycle, Place, at_reservation, in_burst, in_epoch, history_of, place_in}
 use Rattle.dc_station_rules.specs.Stations.{marked, left_by, left_after, mark_word, long_word, burst_word, epoch_word, word_for, plain_word}

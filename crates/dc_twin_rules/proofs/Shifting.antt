@@ -1,5 +1,5 @@
 -- The shift of a pair is that of its edge, and adds to its first pads alone.
-use Rattle.std.proofs.Common.{◌≡◌, ℕ, zero, suc, ◌+◌, ◌-◌, ◌*◌, ◌%◌, ◌<◌, ◌≤◌, ◌==◌, ◌&&◌, ◌||◌, Bool, true, false, cond, List, [], ◌∷◌, length, map, find, get_or, slice_index, slice_index_or, nat_eq, Option, Some, None, option_map, refl, sym, ◌∙◌, ap, subst, inl, inr, arith, eqb-true, eq-eqb, true≢false}
+use Rattle.std.proofs.Common.{◌≡◌, ℕ, ◌+◌, ◌-◌, ◌*◌, ◌%◌, ◌<◌, ◌==◌, ◌&&◌, ◌||◌, Bool, true, false, cond, List, [], ◌∷◌, length, map, find, get_or, slice_index, Option, Some, None, option_map, refl, sym, ◌∙◌, ap, inl, inr, arith, eqb-true, eq-eqb}
 use Rattle.std.specs.List.{All, list_any, filter_map, cons_option}
 use Rattle.std.specs.Option.{option_map_or}
 use Rattle.std.proofs.Math.ListN.{get_or-eq_default}
@@ -12,7 +12,6 @@ use Rattle.dc_spec.specs.Pads.{Pair}
 use Rattle.dc_spec.specs.Words.{zero_word, word_sub}
 use Rattle.dc_spec.proofs.Options.{some-inj}
 use Rattle.dc_spec.proofs.WordLemmas.{symbol-word_of, length-word_of}
-use Rattle.dc_graph_rules.specs.Forests.{is_parent}
 use Rattle.dc_key_rules.specs.PairKeys.{symbols, pads_add}
 use Rattle.dc_net_rules.specs.Runs.{word_of_station}
 use Rattle.dc_twin_rules.specs.Twins.{Shift, child_end, tree_shift, shifted_pair}
@@ -115,7 +114,7 @@ shifted_pad sums q child t l n x are size place few within is =
     let wide : n < length q.a = omega arith in
     let number = length-map sums (shift_word q.u child) in
     let added : slice_index (symbols words) n ≡ x = symbols-at words (sixteen-shifts q.u child sums are) t l n place few (omega arith)
-        ∙ ap (λ (w : List ℕ). slice_index w l) (get_or-map (shift_word q.u child) sums t [] [] within) ∙ is in
+    ∙ ap (λ (w : List ℕ). slice_index w l) (get_or-map (shift_word q.u child) sums t [] [] within) ∙ is in
     pads_add-at q.a (symbols words) n 0 wide (omega arith) ∙ ap (λ (z : ℕ). (slice_index q.a n + z) % 65537) added
 
 pub first-pad : (sums : List (List (List ℕ))) (q : Pair) (is_child_u is_child_v : Bool) (B : ℕ → ℕ) (t l n : ℕ) → All AreSixteens sums → length q.a ≡ 16 * length sums → q.u < q.v → n ≡ 16 * t + l → l < 16 → t < length sums →

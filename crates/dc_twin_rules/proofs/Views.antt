@@ -1,5 +1,5 @@
 -- The view of a twin is that of its net: no pad that a member knows changes.
-use Rattle.std.proofs.Common.{◌≡◌, ℕ, ◌+◌, ◌<◌, ◌||◌, not, Bool, true, false, cond, List, [], ◌∷◌, ◌++◌, map, filter, get_or, option_map, Option, Some, None, codes, refl, sym, ◌∙◌, ap, inl, inr, arith, true≢false}
+use Rattle.std.proofs.Common.{◌≡◌, ℕ, ◌<◌, ◌||◌, not, Bool, true, false, cond, List, [], ◌∷◌, ◌++◌, map, filter, get_or, option_map, Some, None, codes, refl, sym, ◌∙◌, ap, inl, inr, arith, true≢false}
 use Rattle.std.specs.List.{All, flat_map, enumerate_from}
 use Rattle.std.specs.Fmt.{decimal}
 use Rattle.std.proofs.lemmas.Bool.{and_parts, cases_Bool, not-true}
@@ -10,13 +10,13 @@ use Rattle.dc_spec.specs.Lists.{is_among}
 use Rattle.dc_spec.specs.Pads.{Pair}
 use Rattle.dc_spec.specs.Scripts.{Turn}
 use Rattle.dc_spec.specs.Net.{Net}
-use Rattle.dc_graph_rules.specs.Graphs.{key_graph, has_edge, are_neighbours}
+use Rattle.dc_graph_rules.specs.Graphs.{key_graph, has_edge}
 use Rattle.dc_graph_rules.specs.Forests.{parents, is_parent}
 use Rattle.dc_net_rules.specs.Nets.{IsNet}
 use Rattle.dc_net_rules.specs.Runs.{Round, all_rounds, recorded, run_of, IsAlike}
 use Rattle.dc_net_rules.proofs.Agreeing.{all_agree}
 use Rattle.dc_run_texts.specs.Coalition.{members, is_known}
-use Rattle.dc_run_texts.specs.View.{edge_line, pair_lines, net_text, round_text, view_text}
+use Rattle.dc_run_texts.specs.View.{edge_line, pair_lines, round_text, view_text}
 use Rattle.dc_twin_rules.specs.Twins.{Admits, tree_shift, twin}
 use Rattle.dc_twin_rules.proofs.TreeEdges.{parent-neighbours}
 use Rattle.dc_twin_rules.proofs.Shifting.{with_shift, shift_of, kept-u, kept-v}
