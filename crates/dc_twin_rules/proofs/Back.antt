@@ -66,11 +66,13 @@ opposite-demands net p is admits played t w l low few =
     let k = slice_index (inverse p) w in
     let G : ℕ → ℕ = λ i. slice_index (plain_word (station_stream net i) h) l in
     let image = image-below n p permutes w low in
-    let one : slice_index (word_of_station (demands_in net p played t) w) l ≡ (G w + (65537 - G k)) % 65537 = ap (λ (v : List ℕ). slice_index v l) (demand-at net p played t w low) ∙ demand-symbol net p permutes w low h l few in
+    let one : slice_index (word_of_station (demands_in net p played t) w) l ≡ (G w + (65537 - G k)) % 65537 = ap (λ (v : List ℕ). slice_index v l) (demand-at net p played t w low)
+    ∙ demand-symbol net p permutes w low h l few in
     let own : station_stream (twin net p) w ≡ station_stream net k = moved-stream net p permutes w low in
     let other : station_stream (twin net p) (slice_index (inverse (inverse p)) w) ≡ station_stream net w = ap (λ (i : ℕ). station_stream (twin net p) i) (inverse-inverse n p permutes w low)
     ∙ moved-stream net p permutes (slice_index p w) image ∙ ap (λ (i : ℕ). station_stream net i) (back-there n p permutes w low) in
-    let two : slice_index (word_of_station (demands_in (twin net p) (inverse p) played t) w) l ≡ (G k + (65537 - G w)) % 65537 = ap (λ (v : List ℕ). slice_index v l) (demand-at (twin net p) (inverse p) played t w low)
+    let two : slice_index (word_of_station (demands_in (twin net p) (inverse p) played t) w) l
+    ≡ (G k + (65537 - G w)) % 65537 = ap (λ (v : List ℕ). slice_index v l) (demand-at (twin net p) (inverse p) played t w low)
     ∙ demand-symbol (twin net p) (inverse p) (inverse-permutes n p permutes) w low h l few
     ∙ (λ i. (slice_index (plain_word (own i) h) l + (65537 - slice_index (plain_word (other i) h) l)) % 65537) in
     let small_w : G w < 65537 = plain-below net is w low h l few in
@@ -78,7 +80,8 @@ opposite-demands net p is admits played t w l low few =
     omega arith
 
 -- so are their sums
-opposite-sums : (f f' : ℕ → List ℕ) (xs : List ℕ) (l : ℕ) → l < 16 → All (λ w. (slice_index (f w) l + slice_index (f' w) l) % 65537 ≡ 0) xs → (slice_index (word_sum (map f xs)) l + slice_index (word_sum (map f' xs)) l) % 65537 ≡ 0
+opposite-sums : (f f' : ℕ → List ℕ) (xs : List ℕ) (l : ℕ) → l < 16 → All (λ w. (slice_index (f w) l + slice_index (f' w) l) % 65537 ≡ 0) xs →
+    (slice_index (word_sum (map f xs)) l + slice_index (word_sum (map f' xs)) l) % 65537 ≡ 0
 opposite-sums f f' xs l few each =
     let one = sum-symbol f xs l few in
     let two = sum-symbol f' xs l few in
@@ -88,7 +91,8 @@ opposite-sums f f' xs l few each =
     let none = sum_by-zero xs in
     omega arith
 
-opposite-below : (g : KeyGraph) (d d' : List (List ℕ)) (l : ℕ) → l < 16 → ((w : ℕ) → w < g.stations → (slice_index (slice_index_or d w zero_word) l + slice_index (slice_index_or d' w zero_word) l) % 65537 ≡ 0) → (c : ℕ) →
+opposite-below : (g : KeyGraph) (d d' : List (List ℕ)) (l : ℕ) → l < 16 → ((w : ℕ) → w < g.stations →
+    (slice_index (slice_index_or d w zero_word) l + slice_index (slice_index_or d' w zero_word) l) % 65537 ≡ 0) → (c : ℕ) →
     (slice_index (word_of_station (below_sums g d) c) l + slice_index (word_of_station (below_sums g d') c) l) % 65537 ≡ 0
 opposite-below g d d' l few each c = elim (cases_lt c g.stations) [
   | inl low ↦ by_case (is_among g.coalition c) (at d) (at d')
@@ -101,7 +105,8 @@ opposite-below g d d' l few each c = elim (cases_lt c g.stations) [
     at x = word_of_station (below_sums g x) c
 
     past : (x : List (List ℕ)) → g.stations ≤ c → word_of_station (below_sums g x) c ≡ zero_word
-    past x high = get_or-eq_default (below_sums g x) zero_word (let size = length-map-range_with_len (λ v. cond (is_among g.coalition v) zero_word (below_sum (parents g) x v)) 0 g.stations in omega arith)
+    past x high = get_or-eq_default (below_sums g x) zero_word (let size = length-map-range_with_len (λ v. cond (is_among g.coalition v) zero_word (below_sum
+        (parents g) x v)) 0 g.stations in omega arith)
 
     by_case : (b : Bool) (v v' : List ℕ) → v ≡ cond b zero_word (below_sum (parents g) d c) → v' ≡ cond b zero_word (below_sum (parents g) d' c) → (slice_index v l + slice_index v' l) % 65537 ≡ 0
     by_case true v v' e e' = (let a = ap (λ (w : List ℕ). slice_index w l) e in let b = ap (λ (w : List ℕ). slice_index w l) e' in let nil = symbol-word_of (λ _. 0) l few in omega arith)
@@ -118,16 +123,20 @@ opposite-rounds : (net : Net) (p : List ℕ) → IsNet net → IsAlike net → A
     (slice_index (word_of_station (get_or (sums_of net p) t []) c) l + slice_index (word_of_station (get_or (sums_of (twin net p) (inverse p)) t []) c) l) % 65537 ≡ 0
 opposite-rounds net p is alike admits t within l few c =
     let there = sums-at net p t within in
-    let back = sums-at (twin net p) (inverse p) t within ∙ ap (λ (played : List Round). below_sums (key_graph net) (demands_in (twin net p) (inverse p) played t)) (rounds-kept net p is alike admits) in
+    let back = sums-at (twin net p) (inverse p) t within ∙ ap (λ (played : List Round). below_sums (key_graph net) (demands_in (twin net p) (inverse p) played t))
+    (rounds-kept net p is alike admits) in
     (λ i. (slice_index (word_of_station (there i) c) l + slice_index (word_of_station (back i) c) l) % 65537)
-    ∙ opposite-below (key_graph net) (demands_in net p (all_rounds net) t) (demands_in (twin net p) (inverse p) (all_rounds net) t) l few (λ w low. opposite-demands net p is admits (all_rounds net) t w l low few) c
+    ∙ opposite-below (key_graph net) (demands_in net p (all_rounds net) t) (demands_in (twin net p) (inverse p) (all_rounds net) t) l few (λ w low. opposite-demands net p is admits
+    (all_rounds net) t w l low few) c
 
 -- the words of a shift, and of the one back
 opposite-words : (u child l : ℕ) (below below' : List (List ℕ)) → l < 16 → slice_index (word_of_station below child) l < 65537 → slice_index (word_of_station below' child) l < 65537 →
-    (slice_index (word_of_station below child) l + slice_index (word_of_station below' child) l) % 65537 ≡ 0 → (slice_index (shift_word u child below) l + slice_index (shift_word u child below') l) % 65537 ≡ 0
+    (slice_index (word_of_station below child) l + slice_index (word_of_station below' child) l) % 65537 ≡ 0 →
+    (slice_index (shift_word u child below) l + slice_index (shift_word u child below') l) % 65537 ≡ 0
 opposite-words u child l below below' few low low' sum = by_case (child == u)
   where
-    by_case : (b : Bool) → (slice_index (cond b (word_of_station below child) (word_sub zero_word (word_of_station below child))) l + slice_index (cond b (word_of_station below' child) (word_sub zero_word (word_of_station below' child))) l) % 65537 ≡ 0
+    by_case : (b : Bool) → (slice_index (cond b (word_of_station below child) (word_sub zero_word (word_of_station below child))) l + slice_index (cond b (word_of_station below' child)
+        (word_sub zero_word (word_of_station below' child))) l) % 65537 ≡ 0
     by_case true = sum
     by_case false =
         let nil = symbol-word_of (λ _. 0) l few in
@@ -162,19 +171,25 @@ pads-back net p is alike admits a u child size good =
     let here : n < length a = omega arith in
     let number = length-map sums (shift_word u child) in
     let number' = length-map sums' (shift_word u child) in
-    let x : slice_index xs n ≡ slice_index (shift_word u child (get_or sums t [])) l = symbols-at (map (shift_word u child) sums) (sixteen-shifts u child sums (sixteen-sums net p)) t l n place few (omega arith)
+    let x : slice_index xs n ≡ slice_index (shift_word u child (get_or sums t [])) l = symbols-at (map (shift_word u child) sums) (sixteen-shifts u child sums
+    (sixteen-sums net p)) t l n place few (omega arith)
     ∙ ap (λ (w : List ℕ). slice_index w l) (get_or-map (shift_word u child) sums t [] [] (omega arith)) in
-    let y : slice_index ys n ≡ slice_index (shift_word u child (get_or sums' t [])) l = symbols-at (map (shift_word u child) sums') (sixteen-shifts u child sums' (sixteen-sums (twin net p) (inverse p))) t l n place few (omega arith)
+    let y : slice_index ys n ≡ slice_index (shift_word u child (get_or sums' t [])) l = symbols-at (map (shift_word u child) sums') (sixteen-shifts u child sums' (sixteen-sums (twin net p)
+    (inverse p))) t l n place few (omega arith)
     ∙ ap (λ (w : List ℕ). slice_index w l) (get_or-map (shift_word u child) sums' t [] [] (omega arith)) in
-    let low : slice_index (word_of_station (get_or sums t []) child) l < 65537 = subst (λ (ws : List (List ℕ)). slice_index (word_of_station ws child) l < 65537) (sym (sums-at net p t round)) (below-symbol (key_graph net) (demands_in net p (all_rounds net) t) child l few) in
-    let low' : slice_index (word_of_station (get_or sums' t []) child) l < 65537 = subst (λ (ws : List (List ℕ)). slice_index (word_of_station ws child) l < 65537) (sym (sums-at (twin net p) (inverse p) t round))
+    let low : slice_index (word_of_station (get_or sums t []) child) l < 65537 = subst (λ (ws : List (List ℕ)). slice_index (word_of_station ws child) l < 65537) (sym (sums-at net p t round))
+    (below-symbol (key_graph net) (demands_in net p (all_rounds net) t) child l few) in
+    let low' : slice_index (word_of_station (get_or sums' t []) child) l < 65537 = subst (λ (ws : List (List ℕ)). slice_index (word_of_station ws child) l < 65537) (sym (sums-at (twin net p)
+    (inverse p) t round))
     (below-symbol (key_graph net) (demands_in (twin net p) (inverse p) (all_rounds (twin net p)) t) child l few) in
     let zero_sum = opposite-words u child l (get_or sums t []) (get_or sums' t []) few low low' (opposite-rounds net p is alike admits t round l few child) in
     pads_add-at (pads_add a xs) ys n 0 (omega arith) (omega arith) ∙ ap (λ (s : ℕ). (s + slice_index ys n) % 65537) (pads_add-at a xs n 0 here (omega arith))
-    ∙ symbol-back (slice_index a n) (slice_index xs n) (slice_index ys n) (good n 0 here) (ap (λ (s : ℕ). (s + slice_index ys n) % 65537) x ∙ ap (λ (s : ℕ). (slice_index (shift_word u child (get_or sums t [])) l + s) % 65537) y ∙ zero_sum)))
+    ∙ symbol-back (slice_index a n) (slice_index xs n) (slice_index ys n) (good n 0 here) (ap (λ (s : ℕ). (s + slice_index ys n) % 65537) x
+    ∙ ap (λ (s : ℕ). (slice_index (shift_word u child (get_or sums t [])) l + s) % 65537) y ∙ zero_sum)))
 
 -- and each pair
-pair-back : (net : Net) (p : List ℕ) → IsNet net → IsAlike net → Admits net p → (q : Pair) → length q.a ≡ 16 * net.words → All (λ x. x < 65537) q.a → changed (twin net p) (inverse p) (changed net p q) ≡ q
+pair-back : (net : Net) (p : List ℕ) → IsNet net → IsAlike net → Admits net p → (q : Pair) → length q.a ≡ 16 * net.words → All (λ x. x < 65537) q.a →
+    changed (twin net p) (inverse p) (changed net p q) ≡ q
 pair-back net p is alike admits q size good =
     let ps = parents (key_graph net) in
     let sums = sums_of net p in
@@ -187,7 +202,8 @@ pair-back net p is alike admits q size good =
 
 map-back : (f g : Pair → Pair) (xs : List Pair) → All (λ q. f (g q) ≡ q) xs → map f (map g xs) ≡ xs
 map-back f g [] back = refl
-map-back f g (x ∷ xs) back = ap (λ (q : Pair). q ∷ map f (map g xs)) (All-head (λ q. f (g q) ≡ q) x xs back) ∙ ap (λ (qs : List Pair). x ∷ qs) (map-back f g xs (All-tail (λ q. f (g q) ≡ q) x xs back))
+map-back f g (x ∷ xs) back = ap (λ (q : Pair). q ∷ map f (map g xs)) (All-head (λ q. f (g q) ≡ q) x xs back) ∙ ap (λ (qs : List Pair). x ∷ qs) (map-back f g xs (All-tail (λ q. f (g q)
+    ≡ q) x xs back))
 
 pairs-back : (net : Net) (p : List ℕ) → IsNet net → IsAlike net → Admits net p → (twin (twin net p) (inverse p)).keys.pairs ≡ net.keys.pairs
 pairs-back net p is alike admits =

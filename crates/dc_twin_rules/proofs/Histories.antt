@@ -43,7 +43,8 @@ same-history net (r ∷ rs) alike i j honest_i honest_j =
 
 pub one-history : (net : Net) → IsAlike net → (t : ℕ) → t ≤ net.words → (i j : ℕ) → IsHonest net i → IsHonest net j → history (rounds_of net t) i ≡ history (rounds_of net t) j
 one-history net alike t le i j honest_i honest_j =
-    same-history net (rounds_of net t) (subst (λ (rounds : List Round). All (IsAlikeIn net) rounds) (take-rounds net t net.words le) (All-take (IsAlikeIn net) t (all_rounds net) alike)) i j honest_i honest_j
+    same-history net (rounds_of net t) (subst (λ (rounds : List Round). All (IsAlikeIn net) rounds) (take-rounds net t net.words le) (All-take (IsAlikeIn net) t
+    (all_rounds net) alike)) i j honest_i honest_j
 
 pub is-honest : (net : Net) (i : ℕ) → i < net.stations → is_among net.coalition i ≡ false → IsHonest net i
 is-honest net i low honest = passes_kept (λ j. not (is_among net.coalition j)) (range_with_len 0 net.stations) i (in_range 0 net.stations i zero-le (omega arith)) (ap not honest)
@@ -57,7 +58,8 @@ pub station-fits : (net : Net) → IsNet net → (i : ℕ) → i < net.stations 
 station-fits net is i low = stream-fits (slice_index_or net.streams i None) (is.are_streams i None (let size = is.streams in omega arith))
 
 -- the stream that a permutation moves to a station
-pub moved-place : (net : Net) (p : List ℕ) → IsPermutationOf net.stations p → (i : ℕ) → i < net.stations → slice_index_or (moved net p).streams i None ≡ slice_index_or net.streams (slice_index (inverse p) i) None
+pub moved-place : (net : Net) (p : List ℕ) → IsPermutationOf net.stations p → (i : ℕ) → i < net.stations → slice_index_or (moved net p).streams i None
+    ≡ slice_index_or net.streams (slice_index (inverse p) i) None
 moved-place net p permutes i low = get_or-map (λ (k : ℕ). slice_index_or net.streams k None) (inverse p) i 0 None (let size = length-inverse net.stations p permutes in omega arith)
 
 pub moved-stream : (net : Net) (p : List ℕ) → IsPermutationOf net.stations p → (i : ℕ) → i < net.stations → station_stream (moved net p) i ≡ station_stream net (slice_index (inverse p) i)
@@ -68,13 +70,15 @@ pub demand-at : (net : Net) (p : List ℕ) (played : List Round) (t i : ℕ) →
 demand-at net p played t i low = get_or-map-range_with_len (λ k. demand net p k (take t (history played k))) 0 net.stations i i zero_word low (omega arith)
 
 pub demand-word : (net : Net) (p : List ℕ) (i : ℕ) (received : List (List ℕ)) → IsWord (demand net p i received)
-demand-word net p i received = IsWord-word_of (λ l. (slice_index (plain_word (station_stream net i) received) l + (65537 - slice_index (plain_word (station_stream (moved net p) i) received) l)) % 65537) (λ l few. small _)
+demand-word net p i received = IsWord-word_of (λ l. (slice_index (plain_word (station_stream net i) received) l + (65537 - slice_index (plain_word (station_stream
+    (moved net p) i) received) l)) % 65537) (λ l few. small _)
   where
     small : (x : ℕ) → x % 65537 < 65537
     small x = omega arith
 
 pub demand-symbol : (net : Net) (p : List ℕ) → IsPermutationOf net.stations p → (i : ℕ) → i < net.stations → (received : List (List ℕ)) (l : ℕ) → l < 16 →
-    slice_index (demand net p i received) l ≡ (slice_index (plain_word (station_stream net i) received) l + (65537 - slice_index (plain_word (station_stream net (slice_index (inverse p) i)) received) l)) % 65537
+    slice_index (demand net p i received) l ≡ (slice_index (plain_word (station_stream net i) received) l + (65537 - slice_index (plain_word (station_stream net (slice_index
+    (inverse p) i)) received) l)) % 65537
 demand-symbol net p permutes i low received l few =
     symbol-word_of (λ k. (slice_index (plain_word (station_stream net i) received) k + (65537 - slice_index (plain_word (station_stream (moved net p) i) received) k)) % 65537) l few
     ∙ ap (λ (s : Stream). (slice_index (plain_word (station_stream net i) received) l + (65537 - slice_index (plain_word s received) l)) % 65537) (moved-stream net p permutes i low)

@@ -39,7 +39,8 @@ symbols-add xs ys same k d low =
     small x = omega arith
 
 -- a shifted pair is a pair
-shifted-is_pair : (stations words : ℕ) (o : Option Shift) (q : Pair) → ((s : Shift) → o ≡ Some s → length (symbols s.words) ≡ 16 * words) → IsPair stations words q → IsPair stations words (with_shift o q)
+shifted-is_pair : (stations words : ℕ) (o : Option Shift) (q : Pair) → ((s : Shift) → o ≡ Some s → length (symbols s.words) ≡ 16 * words) → IsPair stations words q →
+    IsPair stations words (with_shift o q)
 shifted-is_pair stations words None q size is = is
 shifted-is_pair stations words (Some s) q size is =
     let same : length q.a ≡ length (symbols s.words) = is.first_pads ∙ sym (size s refl) in
@@ -63,7 +64,8 @@ shift-size net p q (Some c) s e =
 map-ends_one : {a b c d : ℕ} {es fs : List (ℕ × ℕ)} → a ≡ b → c ≡ d → es ≡ fs → ◌≡◌ {A = List (ℕ × ℕ)} ((a, c) ∷ es) ((b, d) ∷ fs)
 map-ends_one one other rest = cc
 
-map-ends : (change : Pair → Pair) → ((q : Pair) → (change q).u ≡ q.u) → ((q : Pair) → (change q).v ≡ q.v) → (xs : List Pair) → map {B = ℕ × ℕ} (λ (q : Pair). (q.u, q.v)) (map change xs) ≡ map {B = ℕ × ℕ} (λ (q : Pair). (q.u, q.v)) xs
+map-ends : (change : Pair → Pair) → ((q : Pair) → (change q).u ≡ q.u) → ((q : Pair) → (change q).v ≡ q.v) → (xs : List Pair) → map {B = ℕ × ℕ} (λ (q : Pair). (q.u, q.v)) (map change xs)
+    ≡ map {B = ℕ × ℕ} (λ (q : Pair). (q.u, q.v)) xs
 map-ends change same_u same_v [] = refl
 map-ends change same_u same_v (x ∷ xs) = map-ends_one (same_u x) (same_v x) (map-ends change same_u same_v xs)
 
@@ -86,7 +88,8 @@ changed-keys net p is =
       most_symbols = subst (λ (n : ℕ). n * (32 * net.keys.words) ≤ 67108864) (sym (length-map net.keys.pairs (changed net p))) keys.most_symbols;
       are_pairs = All-map (IsPair net.keys.stations net.keys.words) (changed net p) net.keys.pairs
           (λ k d low. shifted-is_pair net.keys.stations net.keys.words (shift_of (parents (key_graph net)) (sums_of net p) (get_or net.keys.pairs k d)) (get_or net.keys.pairs k d)
-          (λ s e. shift-size net p (get_or net.keys.pairs k d) (child_end (parents (key_graph net)) (get_or net.keys.pairs k d)) s e ∙ ap (λ (n : ℕ). 16 * n) (sym words)) (keys.are_pairs k d low));
+          (λ s e. shift-size net p (get_or net.keys.pairs k d) (child_end (parents (key_graph net)) (get_or net.keys.pairs k d)) s e
+          ∙ ap (λ (n : ℕ). 16 * n) (sym words)) (keys.are_pairs k d low));
       rising = subst (λ (es : List (ℕ × ℕ)). AreEndsRising es) (sym (map-ends (changed net p) (changed-u net p) (changed-v net p) net.keys.pairs)) keys.rising;
     }
 
@@ -104,7 +107,8 @@ missing-kept net p =
     λ i. option_map (λ (e : ℕ × ℕ). key_missing e.0 e.1) (find (λ (e : ℕ × ℕ). not (same e i)) net.edges)
 
 -- a search along changed items
-search-kept : (S : Pair → Bool) (K : Pair → Disagreement) (c : Pair → Pair) → ((q : Pair) → S (c q) ≡ S q) → ((q : Pair) → K (c q) ≡ K q) → (xs : List Pair) → option_map K (find S (map c xs)) ≡ option_map K (find S xs)
+search-kept : (S : Pair → Bool) (K : Pair → Disagreement) (c : Pair → Pair) → ((q : Pair) → S (c q) ≡ S q) → ((q : Pair) → K (c q) ≡ K q) → (xs : List Pair) → option_map K (find S (map c xs))
+    ≡ option_map K (find S xs)
 search-kept S K c tests says [] = refl
 search-kept S K c tests says (x ∷ xs) = ap (λ (b : Bool). option_map K (cond b (Some (c x)) (find S (map c xs)))) (tests x) ∙ by_case (S x) (search-kept S K c tests says xs)
   where
@@ -161,10 +165,12 @@ tests net missing stray streams =
     ∷ first_by (rule_fault net) turns
     ∷ [])
 
-streams-kept : (net : Net) (p : List ℕ) → IsNet net → Admits net p → first_by (stream_fault (twin net p)) (range_with_len 0 net.stations) ≡ first_by (stream_fault net) (range_with_len 0 net.stations)
+streams-kept : (net : Net) (p : List ℕ) → IsNet net → Admits net p → first_by (stream_fault (twin net p)) (range_with_len 0 net.stations)
+    ≡ first_by (stream_fault net) (range_with_len 0 net.stations)
 streams-kept net p is admits = ap (λ (os : List (Option Disagreement)). first_of os) (map-same (stream_fault (twin net p)) (stream_fault net) (range_with_len 0 net.stations)
     (all_range (λ i. stream_fault (twin net p) i ≡ stream_fault net i) net.stations (λ i low.
-    ap (λ (there : Bool). if is_among net.coalition i then (if there then Some (stream_stray i) else None) else (if there then None else Some (stream_missing i))) (place-kept net p is admits i low))))
+    ap (λ (there : Bool). if is_among net.coalition i then (if there then Some (stream_stray i) else None) else (if there then None else Some (stream_missing i)))
+    (place-kept net p is admits i low))))
 
 agrees-kept : (net : Net) (p : List ℕ) → IsNet net → Admits net p → Agrees (twin net p)
 unfolding tests

@@ -33,7 +33,8 @@ end-gain end other f change Y n i pairs ends gains low apart =
     let own = sym (sum_by-kept f (λ q. end q == i) pairs) in
     let by_key = sum_by-key (λ q. end q == i) other (Y i) n pairs low
     (λ j k d less within a b same. apart j k d less within (eqb-true _ i a ∙ sym (eqb-true _ i b)) same) in
-    ap (λ s. s % 65537) kept ∙ split ∙ ap (λ s. (s + sum_by (λ q. cond (end q == i) (Y i (other q)) 0) pairs) % 65537) own ∙ ap (λ s. (sum_by f (filter (λ q. end q == i) pairs) + s) % 65537) by_key
+    ap (λ s. s % 65537) kept ∙ split ∙ ap (λ s. (s + sum_by (λ q. cond (end q == i) (Y i (other q)) 0) pairs) % 65537) own
+    ∙ ap (λ s. (sum_by f (filter (λ q. end q == i) pairs) + s) % 65537) by_key
   where
     one_by : (b : Bool) (f' f y y' : ℕ) → (b ≡ true → y ≡ y') → f' % 65537 ≡ (f + y) % 65537 → cond b f' 0 % 65537 ≡ (cond b f 0 + cond b y' 0) % 65537
     one_by true f' f y y' same e = let s = same refl in omega arith
@@ -64,6 +65,7 @@ balanced au av false true bi bw low_i low_w apart up down = elim (down refl) [
 balanced au av false false bi bw low_i low_w apart up down = let left = none_counts au in let right = none_counts av in omega arith
 
 -- the parent of a station counts once
-pub parent-counts : (o : Option ℕ) (n b : ℕ) → ((u : ℕ) → o ≡ Some u → u < n) → (o ≡ None → b % 65537 ≡ 0) → sum_by (λ w. cond (option_map_or (nat_eq w) o false) b 0) (range_with_len 0 n) % 65537 ≡ b % 65537
+pub parent-counts : (o : Option ℕ) (n b : ℕ) → ((u : ℕ) → o ≡ Some u → u < n) → (o ≡ None → b % 65537 ≡ 0) →
+    sum_by (λ w. cond (option_map_or (nat_eq w) o false) b 0) (range_with_len 0 n) % 65537 ≡ b % 65537
 parent-counts None n b low none = ap (λ s. s % 65537) (sum_by-zero (range_with_len 0 n)) ∙ (let e = none refl in omega arith)
 parent-counts (Some u) n b low none = ap (λ s. s % 65537) (sum_by-single (λ _. b) 0 n u zero-le (let below = low u refl in omega arith))

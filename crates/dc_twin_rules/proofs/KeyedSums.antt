@@ -37,7 +37,8 @@ sum_by-key {A} keep key X n (x ∷ xs) low apart =
     let parts = sum_by-plus (λ w. cond (here w) (X w) 0) (λ w. cond (rest w) (X w) 0) (range_with_len 0 n) in
     let own = at_key (keep x) X n (key x) (All-head (λ y. key y < n) x xs low) in
     let split = sum_by-cons (λ y. cond (keep y) (X (key y)) 0) x xs in
-    split ∙ (let e : cond (keep x) (X (key x)) 0 + sum_by (λ y. cond (keep y) (X (key y)) 0) xs ≡ sum_by (λ w. cond (here w) (X w) 0) (range_with_len 0 n) + sum_by (λ w. cond (rest w) (X w) 0) (range_with_len 0 n) = omega arith in e)
+    split ∙ (let e : cond (keep x) (X (key x)) 0 + sum_by (λ y. cond (keep y) (X (key y)) 0) xs
+    ≡ sum_by (λ w. cond (here w) (X w) 0) (range_with_len 0 n) + sum_by (λ w. cond (rest w) (X w) 0) (range_with_len 0 n) = omega arith in e)
     ∙ sym (both ∙ parts)
 
 -- the items that a filter keeps, by its test

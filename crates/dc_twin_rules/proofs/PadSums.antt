@@ -39,7 +39,8 @@ symbols-at (w ∷ ws) are (suc t) l n is few within =
     ∙ symbols-at ws (All-tail (λ (v : List ℕ). length v ≡ 16) w ws are) t l (16 * t + l) refl few (omega arith)
 
 -- what is added to a first pad is added to the symbol of the key
-pub key_symbol-shifted : (a b c : List ℕ) (a' : List ℕ) (before n x : ℕ) → slice_index a' n % 65537 ≡ (slice_index a n + x) % 65537 → key_symbol a' b c before n % 65537 ≡ (key_symbol a b c before n + x) % 65537
+pub key_symbol-shifted : (a b c : List ℕ) (a' : List ℕ) (before n x : ℕ) → slice_index a' n % 65537 ≡ (slice_index a n + x) % 65537 → key_symbol a' b c before n % 65537
+    ≡ (key_symbol a b c before n + x) % 65537
 key_symbol-shifted a b c a' before n x is = by_numbers (slice_index a' n) (slice_index a n) x (sum_by (λ k. slice_index b (n - k) * slice_index c k) (range_with_len 0 before)) is
   where
     by_numbers : (p q x r : ℕ) → p % 65537 ≡ (q + x) % 65537 → (p + r) % 65537 % 65537 ≡ ((q + r) % 65537 + x) % 65537

@@ -13,7 +13,8 @@ use Rattle.dc_twin_rules.specs.Twins.{IsPermutationOf, inverse}
 use Rattle.dc_twin_rules.proofs.KeyedSums.{sum_by-mod_plus, all_range}
 use Rattle.dc_twin_rules.proofs.Permuted.{sum-permuted, back-there}
 
-second_fails : (b c : Bool) → (b || c) ≡ false → c ≡ false
+-- where neither of two tests passes, the second does not
+pub second_fails : (b c : Bool) → (b || c) ≡ false → c ≡ false
 second_fails false c h = h
 second_fails true c h = absurd (true≢false h)
 
@@ -21,7 +22,8 @@ second_fails true c h = absurd (true≢false h)
 pub walk-honest : (g : KeyGraph) (u : ℕ) (walk : List ℕ) (w : ℕ) → is_among g.coalition u ≡ false → IsWalk g u walk w → is_among g.coalition w ≡ false
 walk-honest g u [] w honest walks = subst (λ (z : ℕ). is_among g.coalition z ≡ false) walks honest
 walk-honest g u (v ∷ vs) w honest walks =
-    walk-honest g v vs w (second_fails (is_among g.coalition u) (is_among g.coalition v) (not-true _ (and_parts (has_edge g.edges u v) (not (is_among g.coalition u || is_among g.coalition v)) walks.0).1)) walks.1
+    walk-honest g v vs w (second_fails (is_among g.coalition u) (is_among g.coalition v) (not-true _ (and_parts (has_edge g.edges u v) (not
+    (is_among g.coalition u || is_among g.coalition v)) walks.0).1)) walks.1
 
 -- walks one after the other, and back
 walks-join : (g : KeyGraph) (u : ℕ) (xs : List ℕ) (v : ℕ) (ys : List ℕ) (w : ℕ) → IsWalk g u xs v → IsWalk g v ys w → IsWalk g u (xs ++ ys) w
@@ -56,7 +58,8 @@ part-sum g i low f =
     ∙ sum_by-same (λ w. cond (of_i.0 w) (f w) 0) (λ w. cond (is_joined g i w) (f w) 0) stations (λ w there. ap (λ (b : Bool). cond b (f w) 0) (same w there))
 
 -- what each station of a part gains, less what the one before it in the permutation gains, is nothing in all
-pub part-sum_zero : (g : KeyGraph) → IsKeyGraph g → (p : List ℕ) → IsPermutationOf g.stations p → ((j : ℕ) → j < g.stations → AreJoined g j (slice_index p j)) → (i : ℕ) → i < g.stations → (G d : ℕ → ℕ) →
+pub part-sum_zero : (g : KeyGraph) → IsKeyGraph g → (p : List ℕ) → IsPermutationOf g.stations p → ((j : ℕ) → j < g.stations → AreJoined g j (slice_index p j)) → (i : ℕ) → i < g.stations →
+    (G d : ℕ → ℕ) →
     ((w : ℕ) → w < g.stations → is_joined g i w ≡ true → (d w + G (slice_index (inverse p) w)) % 65537 ≡ G w % 65537) → sum_by d (part g i) % 65537 ≡ 0
 part-sum_zero g good p permutes joined i low G d is =
     let n = g.stations in

@@ -64,7 +64,8 @@ value-symbol value is (suc r) few =
 
 epoch-symbol : (shorts : List (List ℕ)) → All IsValue shorts → (epoch : Epoch) (l : ℕ) → l < 16 → slice_index (epoch_word shorts epoch) l < 65537
 epoch-symbol [] are epoch l few = zero-symbol l few
-epoch-symbol (value ∷ values) are epoch l few = choice-symbol (calls value epoch) (contended_word value 1) zero_word l (value-symbol value (All-head IsValue value values are) l few) (zero-symbol l few)
+epoch-symbol (value ∷ values) are epoch l few = choice-symbol (calls value epoch) (contended_word value 1) zero_word l (value-symbol value (All-head IsValue value values are) l few)
+    (zero-symbol l few)
 
 place-symbol : (s : Stream) → IsFit s → (place : Place) (l : ℕ) → l < 16 → slice_index (word_for s place) l < 65537
 unfolding word_for

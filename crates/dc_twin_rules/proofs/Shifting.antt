@@ -39,7 +39,8 @@ find_step T None R false any F tests same rest = rest
 find_step T (Some s) R true any F tests same rest = ap (λ (b : Bool). cond b (Some s) (find T R)) (tests s refl) ∙ same refl
 find_step T (Some s) R false any F tests same rest = ap (λ (b : Bool). cond b (Some s) (find T R)) (tests s refl) ∙ rest
 
-shift_tests : (sums : List (List (List ℕ))) (x : Pair) (o : Option ℕ) (T : Shift → Bool) (m : Bool) → ((c : ℕ) → T (tree_shift sums x c) ≡ m) → (s : Shift) → option_map (tree_shift sums x) o ≡ Some s → T s ≡ m
+shift_tests : (sums : List (List (List ℕ))) (x : Pair) (o : Option ℕ) (T : Shift → Bool) (m : Bool) → ((c : ℕ) → T (tree_shift sums x c) ≡ m) → (s : Shift) → option_map (tree_shift sums x) o
+    ≡ Some s → T s ≡ m
 shift_tests sums x None T m tests s e = absurd (none-some s e)
 shift_tests sums x (Some c) T m tests s e = ap T (sym (some-inj e)) ∙ tests c
 
@@ -58,7 +59,14 @@ find-shift ps sums q (x ∷ xs) =
 pub shifted-at : (ps : List (Option ℕ)) (sums : List (List (List ℕ))) (xs : List Pair) → All (λ q. shifted_pair (filter_map (shift_of ps sums) xs) q ≡ with_shift (shift_of ps sums q) q) xs
 shifted-at ps sums xs k d within =
     let q = get_or xs k d in
-    let there = list_any-from_Any (λ (x : Pair). (x.u == q.u) && (x.v == q.v)) xs (k, q, within, get_or_default xs k q d within, and_from (q.u == q.u) (q.v == q.v) (eq-eqb q.u q.u refl) (eq-eqb q.v q.v refl)) in
+    let there = list_any-from_Any (λ (x : Pair). (x.u == q.u) && (x.v == q.v)) xs (
+      k,
+      q,
+      within,
+      get_or_default xs k q d within,
+      and_from (q.u == q.u) (q.v == q.v) (eq-eqb q.u q.u refl)
+          (eq-eqb q.v q.v refl),
+    ) in
     ap (λ (o : Option Shift). with_shift o q) (find-shift ps sums q xs ∙ ap (λ (b : Bool). cond b (shift_of ps sums q) None) there)
 
 -- a shift leaves the ends and the second pads
@@ -96,7 +104,8 @@ sixteen-shift u child below are = by_case (child == u)
     by_case false = length-word_of (λ l. (slice_index zero_word l + (65537 - slice_index (word_of_station below child) l)) % 65537)
 
 pub sixteen-shifts : (u child : ℕ) (sums : List (List (List ℕ))) → All AreSixteens sums → AreSixteens (map (shift_word u child) sums)
-sixteen-shifts u child sums are = All-map (λ (w : List ℕ). length w ≡ 16) (shift_word u child) sums (All-weaker AreSixteens (λ (below : List (List ℕ)). length (shift_word u child below) ≡ 16) (sixteen-shift u child) sums are)
+sixteen-shifts u child sums are = All-map (λ (w : List ℕ). length w ≡ 16) (shift_word u child) sums (All-weaker AreSixteens (λ (below : List (List ℕ)). length (shift_word u child below)
+    ≡ 16) (sixteen-shift u child) sums are)
 
 pub length-shift : (u child : ℕ) (sums : List (List (List ℕ))) → All AreSixteens sums → length (symbols (map (shift_word u child) sums)) ≡ 16 * length sums
 length-shift u child sums are = length-symbols (map (shift_word u child) sums) (sixteen-shifts u child sums are) ∙ ap (λ (n : ℕ). 16 * n) (length-map sums (shift_word u child))
@@ -117,12 +126,15 @@ shifted_pad sums q child t l n x are size place few within is =
     ∙ ap (λ (w : List ℕ). slice_index w l) (get_or-map (shift_word q.u child) sums t [] [] within) ∙ is in
     pads_add-at q.a (symbols words) n 0 wide (omega arith) ∙ ap (λ (z : ℕ). (slice_index q.a n + z) % 65537) added
 
-pub first-pad : (sums : List (List (List ℕ))) (q : Pair) (is_child_u is_child_v : Bool) (B : ℕ → ℕ) (t l n : ℕ) → All AreSixteens sums → length q.a ≡ 16 * length sums → q.u < q.v → n ≡ 16 * t + l → l < 16 → t < length sums →
+pub first-pad : (sums : List (List (List ℕ))) (q : Pair) (is_child_u is_child_v : Bool) (B : ℕ → ℕ) (t l n : ℕ) → All AreSixteens sums → length q.a ≡ 16 * length sums → q.u < q.v → n
+    ≡ 16 * t + l → l < 16 → t < length sums →
     ((c : ℕ) → B c ≡ slice_index (word_of_station (get_or sums t []) c) l) →
-    slice_index (with_shift (option_map (tree_shift sums q) (cond is_child_u (Some q.u) (cond is_child_v (Some q.v) None))) q).a n % 65537 ≡ (slice_index q.a n + gain is_child_u is_child_v B q.u q.v) % 65537
+    slice_index (with_shift (option_map (tree_shift sums q) (cond is_child_u (Some q.u) (cond is_child_v (Some q.v) None))) q).a n % 65537
+    ≡ (slice_index q.a n + gain is_child_u is_child_v B q.u q.v) % 65537
 first-pad sums q true is_child_v B t l n are size up place few within is =
     let below = get_or sums t [] in
-    let here : slice_index (shift_word q.u q.u below) l ≡ B q.u = ap (λ (b : Bool). slice_index (cond b (word_of_station below q.u) (word_sub zero_word (word_of_station below q.u))) l) (eq-eqb q.u q.u refl) ∙ sym (is q.u) in
+    let here : slice_index (shift_word q.u q.u below) l ≡ B q.u = ap (λ (b : Bool). slice_index (cond b (word_of_station below q.u) (word_sub zero_word (word_of_station below q.u))) l)
+    (eq-eqb q.u q.u refl) ∙ sym (is q.u) in
     let e = shifted_pad sums q q.u t l n (B q.u) are size place few within here in
     omega arith
 first-pad sums q false true B t l n are size up place few within is =
@@ -132,7 +144,8 @@ first-pad sums q false true B t l n are size up place few within is =
     let at = symbol-word_of (λ k. (slice_index zero_word k + (65537 - slice_index word k)) % 65537) l few in
     let nil = symbol-word_of (λ _. 0) l few in
     let b = is q.v in
-    let here : slice_index (shift_word q.u q.v below) l ≡ (65537 - B q.v) % 65537 = ap (λ (b : Bool). slice_index (cond b word (word_sub zero_word word)) l) other ∙ (let e : slice_index (word_sub zero_word word) l ≡ (65537 - B q.v) % 65537 = omega arith in e) in
+    let here : slice_index (shift_word q.u q.v below) l ≡ (65537 - B q.v) % 65537 = ap (λ (b : Bool). slice_index (cond b word (word_sub zero_word word)) l) other
+    ∙ (let e : slice_index (word_sub zero_word word) l ≡ (65537 - B q.v) % 65537 = omega arith in e) in
     let e = shifted_pad sums q q.v t l n ((65537 - B q.v) % 65537) are size place few within here in
     omega arith
 first-pad sums q false false B t l n are size up place few within is = omega arith

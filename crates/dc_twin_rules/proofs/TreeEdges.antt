@@ -93,17 +93,21 @@ abbrev pub is_larger_end : List Pair → ℕ → ℕ → Bool
 is_larger_end pairs i w = list_any (λ q. (q.v == i) && nat_eq w q.u) pairs
 
 no_smaller : (pairs : List Pair) → All (λ q. q.u < q.v) pairs → (i w : ℕ) → w < i → is_smaller_end pairs i w ≡ false
-no_smaller pairs up i w less = list_any_none (λ q. (q.u == i) && nat_eq w q.v) pairs (All-weaker (λ q. q.u < q.v) (λ q. ((q.u == i) && nat_eq w q.v) ≡ false) (λ q rises. none q rises (cases_Bool ((q.u == i) && nat_eq w q.v))) pairs up)
+no_smaller pairs up i w less = list_any_none (λ q. (q.u == i) && nat_eq w q.v) pairs (All-weaker (λ q. q.u < q.v) (λ q. ((q.u == i) && nat_eq w q.v)
+    ≡ false) (λ q rises. none q rises (cases_Bool ((q.u == i) && nat_eq w q.v))) pairs up)
   where
     none : (q : Pair) → q.u < q.v → ((((q.u == i) && nat_eq w q.v) ≡ true) ⊎ (((q.u == i) && nat_eq w q.v) ≡ false)) → ((q.u == i) && nat_eq w q.v) ≡ false
-    none q rises (inl yes_it) = (let parts = and_parts (q.u == i) (nat_eq w q.v) yes_it in let a : q.u ≡ i = eqb-true q.u i parts.0 in let b : w ≡ q.v = eqb-true w q.v parts.1 in absurd (omega arith))
+    none q rises (inl yes_it) = (let parts = and_parts (q.u == i) (nat_eq w q.v) yes_it in let a : q.u ≡ i = eqb-true q.u i parts.0 in let b : w
+        ≡ q.v = eqb-true w q.v parts.1 in absurd (omega arith))
     none q rises (inr no_it) = no_it
 
 no_larger : (pairs : List Pair) → All (λ q. q.u < q.v) pairs → (i w : ℕ) → i < w → is_larger_end pairs i w ≡ false
-no_larger pairs up i w less = list_any_none (λ q. (q.v == i) && nat_eq w q.u) pairs (All-weaker (λ q. q.u < q.v) (λ q. ((q.v == i) && nat_eq w q.u) ≡ false) (λ q rises. none q rises (cases_Bool ((q.v == i) && nat_eq w q.u))) pairs up)
+no_larger pairs up i w less = list_any_none (λ q. (q.v == i) && nat_eq w q.u) pairs (All-weaker (λ q. q.u < q.v) (λ q. ((q.v == i) && nat_eq w q.u)
+    ≡ false) (λ q rises. none q rises (cases_Bool ((q.v == i) && nat_eq w q.u))) pairs up)
   where
     none : (q : Pair) → q.u < q.v → ((((q.v == i) && nat_eq w q.u) ≡ true) ⊎ (((q.v == i) && nat_eq w q.u) ≡ false)) → ((q.v == i) && nat_eq w q.u) ≡ false
-    none q rises (inl yes_it) = (let parts = and_parts (q.v == i) (nat_eq w q.u) yes_it in let a : q.v ≡ i = eqb-true q.v i parts.0 in let b : w ≡ q.u = eqb-true w q.u parts.1 in absurd (omega arith))
+    none q rises (inl yes_it) = (let parts = and_parts (q.v == i) (nat_eq w q.u) yes_it in let a : q.v ≡ i = eqb-true q.v i parts.0 in let b : w
+        ≡ q.u = eqb-true w q.u parts.1 in absurd (omega arith))
     none q rises (inr no_it) = no_it
 
 pub rising-pairs : (k : Keys) → IsKeys k → All (λ q. q.u < q.v) k.pairs

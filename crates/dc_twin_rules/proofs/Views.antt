@@ -25,7 +25,8 @@ use Rattle.dc_twin_rules.proofs.Rounds.{rounds-kept}
 
 -- an edge of the forest has no end in the coalition
 unknown-edge : (net : Net) → IsNet net → (u c : ℕ) → c < net.stations → is_parent (parents (key_graph net)) u c ≡ true → (is_among net.coalition u || is_among net.coalition c) ≡ false
-unknown-edge net is u c low h = not-true _ (and_parts (has_edge net.edges u c) (not (is_among net.coalition u || is_among net.coalition c)) (parent-neighbours (key_graph net) is.graph u c low h)).1
+unknown-edge net is u c low h = not-true _ (and_parts (has_edge net.edges u c) (not (is_among net.coalition u || is_among net.coalition c)) (parent-neighbours
+    (key_graph net) is.graph u c low h)).1
 
 -- so a pair that a member knows stays
 known-stays : (net : Net) (p : List ℕ) → IsNet net → (q : Pair) → q.u < net.stations → q.v < net.stations → is_known net q ≡ true → changed net p q ≡ q
