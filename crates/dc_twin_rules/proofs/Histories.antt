@@ -18,7 +18,7 @@ use Rattle.dc_net_rules.specs.Nets.{IsNet}
 use Rattle.dc_net_rules.specs.Runs.{Round, word_of_station, station_stream, history, rounds_of, all_rounds, next_round, IsHonest, IsAlikeIn, IsAlike}
 use Rattle.dc_net_rules.proofs.RoundLemmas.{length-rounds_of}
 use Rattle.dc_twin_rules.specs.Twins.{IsPermutationOf, inverse, moved, demand, demands_in}
-use Rattle.dc_twin_rules.proofs.Permuted.{length-inverse}
+use Rattle.dc_twin_rules.proofs.Permuted.{length-inverse, image-below, back-there}
 use Rattle.dc_twin_rules.proofs.PlainSymbols.{IsFit, plain-symbol}
 
 -- the first rounds of a run
@@ -61,6 +61,12 @@ station-fits net is i low = stream-fits (slice_index_or net.streams i None) (is.
 pub moved-place : (net : Net) (p : List ℕ) → IsPermutationOf net.stations p → (i : ℕ) → i < net.stations → slice_index_or (moved net p).streams i None
     ≡ slice_index_or net.streams (slice_index (inverse p) i) None
 moved-place net p permutes i low = get_or-map (λ (k : ℕ). slice_index_or net.streams k None) (inverse p) i 0 None (let size = length-inverse net.stations p permutes in omega arith)
+
+-- so the image of a station has that station's stream
+pub image-place : (net : Net) (p : List ℕ) → IsPermutationOf net.stations p → (i : ℕ) → i < net.stations →
+    slice_index_or (moved net p).streams (slice_index p i) None ≡ slice_index_or net.streams i None
+image-place net p permutes i low = moved-place net p permutes (slice_index p i) (image-below net.stations p permutes i low)
+    ∙ ap (λ (k : ℕ). slice_index_or net.streams k None) (back-there net.stations p permutes i low)
 
 pub moved-stream : (net : Net) (p : List ℕ) → IsPermutationOf net.stations p → (i : ℕ) → i < net.stations → station_stream (moved net p) i ≡ station_stream net (slice_index (inverse p) i)
 moved-stream net p permutes i low = ap (λ (place : Option Stream). unwrap_or place (record { shorts = []; longs = []; coins = [] })) (moved-place net p permutes i low)

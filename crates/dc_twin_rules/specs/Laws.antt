@@ -1,16 +1,23 @@
 -- Laws of twins.
-use Rattle.std.specs.Prelude.{ℕ, ◌≡◌, ◌↔◌, IsTrue, List}
+use Rattle.std.specs.Prelude.{ℕ, ◌<◌, ◌≡◌, ◌↔◌, IsTrue, List, slice_index, slice_index_or, None}
 use Rattle.dc_spec.specs.Net.{Net}
 use Rattle.dc_graph_rules.specs.Graphs.{IsKeyGraph, key_graph}
 use Rattle.dc_net_rules.specs.Nets.{IsNet}
 use Rattle.dc_net_rules.specs.Runs.{all_rounds, run_of, IsAlike}
 use Rattle.dc_run_texts.specs.View.{view_text}
-use Rattle.dc_twin_rules.specs.Twins.{Admits, admits, inverse, twin}
+use Rattle.dc_twin_rules.specs.Twins.{IsPermutationOf, Admits, admits, inverse, twin}
 
 -- the test whether a net admits a permutation is right
 abbrev pub AdmitsAsComputed : Type 0
 AdmitsAsComputed =
     (net : Net) (p : List ℕ) → IsKeyGraph (key_graph net) → IsTrue (admits net p) ↔ Admits net p
+
+-- in the twin, the image of a station has the stream that the station has in the net
+abbrev pub TwinMovesStreams : Type 0
+TwinMovesStreams =
+    (net : Net) (p : List ℕ) → IsPermutationOf net.stations p → (i : ℕ) → i < net.stations
+    → slice_index_or (twin net p).streams (slice_index p i) None
+    ≡ slice_index_or net.streams i None
 
 -- where all honest stations receive alike, the rounds of a twin are those of its net: the words of
 -- all stations, their sums and what each station receives

@@ -1,11 +1,16 @@
 //! Laws of twins. The functions do nothing; each one's contract is a law.
 
-ghost use Rattle.dc_twin_rules.specs.Laws.{AdmitsAsComputed, TwinKeepsRounds, TwinIsNet, TwinIsAlike, TwinKeepsView, TwinAdmitsInverse, TwinOfTwin};
+ghost use Rattle.dc_twin_rules.specs.Laws.{AdmitsAsComputed, TwinMovesStreams, TwinKeepsRounds, TwinIsNet, TwinIsAlike, TwinKeepsView, TwinAdmitsInverse, TwinOfTwin};
 
 /// The test whether a net admits a permutation is right.
 #[tactic(auto, using(crate::proofs::Admitting::admits_is_computed))]
 pub fn admits_as_computed()
     ensures { AdmitsAsComputed }
+{}
+
+/// In a twin the image of a station has the stream of that station.
+pub fn twin_moves_streams()
+    ensures { TwinMovesStreams }
 {}
 
 /// Where all honest stations receive alike, each round of a twin is that round of its net.
