@@ -1,1 +1,9 @@
 pub mod Admitting
+pub mod PlainSymbols
+pub mod KeyedSums
+pub mod Permuted
+pub mod PadSums
+pub mod TreeEdges
+pub mod Shifting
+pub mod KeyGains
+pub mod PartSums
