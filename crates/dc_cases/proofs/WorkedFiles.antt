@@ -11,6 +11,7 @@ use Rattle.dc_spec.specs.Pads.{Keys}
 use Rattle.dc_spec.specs.Net.{Net, Run}
 use Rattle.dc_formats.specs.TextFile.{text_file, hex_text, ended, cut_off, file_lines}
 use Rattle.dc_formats.specs.KeyFile.{keys_bytes}
+use Rattle.dc_formats.specs.SeedFile.{seeds_bytes}
 use Rattle.dc_formats.specs.StreamFile.{stream_text}
 use Rattle.dc_formats.specs.ScriptFile.{is_before, term_order, script_text}
 use Rattle.dc_formats.specs.ListFiles.{images_text, wanted_text}
@@ -164,6 +165,11 @@ small_key_file : keys_bytes small_keys ≡ (68 ∷ 67 ∷ 75 ∷ 1 ∷ 0 ∷ 3 �
     ∷ 0 ∷ 0 ∷ 0 ∷ 0 ∷ 0 ∷ 0 ∷ 0 ∷ 0 ∷ 0 ∷ 0 ∷ 0 ∷ 0 ∷ 0 ∷ 0 ∷ 0 ∷ 0 ∷ 0 ∷ 0 ∷ 0 ∷ 0 ∷ 0 ∷ 0 ∷ 0 ∷ 0 ∷ 0 ∷ 0 ∷ 0 ∷ 0 ∷ 0 ∷ 0 ∷ 0 ∷ 0 ∷ 0 ∷ 0 ∷ 0 ∷ 0 ∷ 0 ∷ 0 ∷ 0 ∷ 0 ∷ 0 ∷ 0 ∷ 0 ∷ 0 ∷ 0 ∷ 0 ∷ 0 ∷ 0 ∷ 0
     ∷ 0 ∷ 0 ∷ 0 ∷ 0 ∷ 0 ∷ 0 ∷ 0 ∷ 0 ∷ 0 ∷ [])
 small_key_file = refl
+
+-- a key file of seeds of one pair and five words, with a seed of zeros
+small_seed_file : seeds_bytes (record { stations = 3; words = 5; pairs = record { u = 0; v = 1; seed = replicate 32 0 } ∷ [] })
+    ≡ (68 ∷ 67 ∷ 75 ∷ 2 ∷ 0 ∷ 3 ∷ 0 ∷ 5 ∷ 0 ∷ 0 ∷ 0 ∷ 1 ∷ 0 ∷ 0 ∷ 0 ∷ 1 ∷ replicate 32 0)
+small_seed_file = refl
 
 -- three pairs and five words take 1944 bytes
 key_file_of_a_triangle : length (keys_bytes (record { stations = 3; words = 5; pairs = zero_pair 5 0 1 ∷ zero_pair 5 0 2 ∷ zero_pair 5 1 2 ∷ [] })) ≡ 1944

@@ -23,13 +23,25 @@ texts_differ : (word due : List ℕ) → word ≢ due → bytes_eq word due ≡ 
 texts_differ word due other = not_true (bytes_eq word due) (λ same. other ((bytes_eq-Decides word due).0 same))
 
 -- words that begin with another word are not a form
-pub other_word : (verb : List ℕ) (rest : List (List ℕ)) → verb ≢ codes "sum" → verb ≢ codes "keygen" → (is_form (verb ∷ rest) ≡ false) × (0 ≡ longest_begun (verb ∷ rest))
-other_word verb rest not_sum not_keygen =
+pub other_word : (verb : List ℕ) (rest : List (List ℕ)) → verb ≢ codes "sum" → verb ≢ codes "keygen" → verb ≢ codes "migrate"
+    → (is_form (verb ∷ rest) ≡ false) × (0 ≡ longest_begun (verb ∷ rest))
+other_word verb rest not_sum not_keygen not_migrate =
     let sum = texts_differ verb (codes "sum") not_sum in
     let keygen = texts_differ verb (codes "keygen") not_keygen in
-    (rw (sum, keygen) refl, rw (sum, keygen) refl)
+    let migrate = texts_differ verb (codes "migrate") not_migrate in
+    (rw (sum, keygen, migrate) refl, rw (sum, keygen, migrate) refl)
 
 -- an empty command line is not a form
 pub no_words : {A : Type 0} (xs : List (String A)) → length xs < 1 → (is_form (texts xs) ≡ false) × (0 ≡ longest_begun (texts xs))
 no_words [] lt = (refl, refl)
 no_words (x ∷ xs) lt = absurd (omega arith)
+
+-- a list of one word
+pub texts_one : {A : Type 0} (xs : List (String A)) (d : String A) → 1 ≤ length xs → length xs < 2 → texts xs ≡ string_bytes (get_or xs 0 d) ∷ []
+texts_one [] d le lt = absurd (omega arith)
+texts_one (x ∷ []) d le lt = refl
+texts_one (x ∷ y ∷ xs) d le lt = absurd (omega arith)
+
+-- a word that was compared
+pub same_text : (word due : List ℕ) → bytes_eq word due ≡ true → word ≡ due
+same_text word due test = (bytes_eq-Decides word due).0 test

@@ -7,7 +7,7 @@ use Rattle.dc_cli.specs.Promises.{LeavesOthers, TellsName}
 use Rattle.dc_cli.specs.declared.outcome.FileFault.{FileFault}
 use Rattle.dc_cli.specs.declared.outcome.Outcome.{Outcome}
 use Rattle.dc_cli.specs.declared.outcome.Outcome.TheVariants.{Done, Usage, Missing, TooLong, Malformed, ShelfFault, SinkFault, NoMemory}
-use Rattle.dc_cli.proofs.PutLemmas.{Rose-earlier}
+use Rattle.dc_edge.proofs.PutLemmas.{Rose-earlier}
 use Rattle.dc_cli.proofs.ShelfLemmas.{told_bytes, held_is_there, held_within, others_since, others_of_all, AskedUpTo, asked_none, asked_first, asked_whole, asked_two, LastAsked, last_is}
 
 MadeOfFile-kept : (m : Making) (s s' : ShelfState) (r : Result (List ℕ) Outcome) → MadeOfFile m.due m.source m.limit s s' r → s'.holds ≡ s.holds

@@ -1,26 +1,32 @@
 -- The promises of a call follow from what it did by its outcome.
-use Rattle.std.proofs.Common.{◌≡◌, ◌≤◌, ◌⊎◌, ℕ, Bool, true, false, List, [], ◌∷◌, length, Result, Ok, Err, inl, inr, refl, sym, ap, ◌∙◌, subst, arith}
-use Rattle.std.specs.Prelude.{IsTrue}
+use Rattle.std.proofs.Common.{◌≡◌, ◌≤◌, ◌⊎◌, ℕ, Bool, true, false, List, [], ◌∷◌, length, Some, Result, Ok, Err, inl, inr, refl, sym, ap, ◌∙◌, subst, arith}
+use Rattle.std.specs.Prelude.{IsTrue, codes}
 use Rattle.dc_spec.specs.Outside.{ShelfState, SinkState, absent, held, Rose, grown}
-use Rattle.dc_spec.specs.Limits.{transcript_limit, manifest_limit}
+use Rattle.dc_spec.specs.Limits.{transcript_limit, manifest_limit, key_file_limit}
+use Rattle.dc_spec.specs.Pads.{Keys as PadKeys}
 use Rattle.dc_spec.specs.Recorded.{Recorded, IsRecorded, transcript_bytes, superposed}
 use Rattle.dc_spec.specs.Text.{words_text}
 use Rattle.dc_formats.specs.KeyFile.{keys_bytes}
+use Rattle.dc_formats.specs.SeedFile.{seeds_bytes}
 use Rattle.dc_formats.proofs.Sizes.{transcript_size}
 use Rattle.dc_edge.specs.Shelf.{IsHeldAbove, FailsUntold, rewritten}
-use Rattle.dc_keyfile.specs.Generator.{generated_keys}
+use Rattle.dc_keyfile.specs.Generator.{generated_keys, seeds_of}
+use Rattle.dc_keyfile.specs.Reading.{keys_from_bytes}
+use Rattle.dc_keyfile.specs.declared.fault.KeyFault.{KeyFault}
 use Rattle.dc_manifest.specs.Content.{Content}
 use Rattle.dc_manifest.specs.Reading.{manifest_of}
 use Rattle.dc_manifest.specs.declared.fault.ManifestFault.{ManifestFault}
 use Rattle.dc_superpose.specs.Reading.{transcript_of}
 use Rattle.dc_superpose.specs.declared.fault.TranscriptFault.{TranscriptFault}
 use Rattle.dc_cli.specs.Forms.{is_name, is_form, longest_begun}
-use Rattle.dc_cli.specs.Commands.{Task, sum, keygen, Spells}
+use Rattle.dc_cli.specs.Commands.{Task, sum, keygen, keygen_seeds, migrate, SpellsKeygen, Spells}
 use Rattle.dc_cli.specs.Summing.{SummedFile, SumRan, Refused}
 use Rattle.dc_cli.specs.Making.{Making, MakesOf}
 use Rattle.dc_cli.specs.Keygen.{keys_for, keygen_making}
+use Rattle.dc_cli.specs.KeygenSeeds.{seeds_for, seeds_making}
+use Rattle.dc_cli.specs.Migrating.{pads_for, migrate_making}
 use Rattle.dc_cli.specs.Ran.{Ran, CommandRan}
-use Rattle.dc_cli.specs.Promises.{Call, AsksFor, RefusesOtherWords, Leaves, KeepsFiles, AsksInOrder, PrintsOnlyWhenDone, PrintsSums, HasLimit, TellsName, TellsTheLast, MissesTheAbsent, RefusesTheLong, TellsTheFault, RefusesTheMalformed, HasCauses, Completes, MakesFile, RunsKeygen, WritesKeys}
+use Rattle.dc_cli.specs.Promises.{Call, AsksFor, RefusesOtherWords, Leaves, KeepsFiles, AsksInOrder, PrintsOnlyWhenDone, PrintsSums, HasLimit, TellsName, TellsTheLast, MissesTheAbsent, RefusesTheLong, TellsTheFault, RefusesTheMalformed, HasCauses, Completes, MakesFile, making_of, MakesFiles, WritesKeys, WritesSeeds, WritesPads}
 use Rattle.dc_cli.specs.declared.outcome.FileFault.{FileFault}
 use Rattle.dc_cli.specs.declared.outcome.FileFault.TheVariants.{Transcript, Keys, Manifest}
 use Rattle.dc_cli.specs.declared.outcome.Outcome.{Outcome}
@@ -37,27 +43,67 @@ name_is false h = h
 Spells-form : (words : List (List ℕ)) (command : Task) → Spells words command → is_form words ≡ true
 Spells-form words (sum file) p = let named : is_name file ≡ true = name_is (is_name file) p.1 in rw (p.0, named) refl
 Spells-form words (keygen seed net target) p =
-    let rest = p.2 in
-    let net_named : is_name net ≡ true = name_is (is_name net) rest.net_is in
-    let target_named : is_name target ≡ true = name_is (is_name target) rest.target_is in
-    rw (p.1, rest.words_are, rest.seed_is, net_named, target_named) refl
+    let net_named : is_name net ≡ true = name_is (is_name net) p.2.net_is in
+    let target_named : is_name target ≡ true = name_is (is_name target) p.2.target_is in
+    rw (p.1, p.2.words_are, p.2.seed_is, net_named, target_named) refl
+Spells-form words (keygen_seeds seed net target) p =
+    let net_named : is_name net ≡ true = name_is (is_name net) p.2.net_is in
+    let target_named : is_name target ≡ true = name_is (is_name target) p.2.target_is in
+    rw (p.1, p.2.words_are, p.2.seed_is, net_named, target_named) refl
+Spells-form words (migrate keys target) p =
+    let keys_named : is_name keys ≡ true = name_is (is_name keys) p.1 in
+    let target_named : is_name target ≡ true = name_is (is_name target) p.2 in
+    rw (p.0, keys_named, target_named) refl
 
 not_both : (words : List (List ℕ)) (command : Task) → Spells words command → is_form words ≡ false → ⊥
 not_both words command p refused = let is = Spells-form words command p in absurd cc
+
+-- the words of `keygen` spell one seed, two names and the words after these
+record SameKeygen (seed net target : List ℕ) (flags : List (List ℕ)) (seed' net' target' : List ℕ) (flags' : List (List ℕ)) : Type 0 where
+  seed_is : seed ≡ seed'
+  net_is : net ≡ net'
+  target_is : target ≡ target'
+  flags_are : flags ≡ flags'
+
+same_keygen : (words : List (List ℕ)) (seed net target : List ℕ) (flags : List (List ℕ)) (seed' net' target' : List ℕ) (flags' : List (List ℕ)) → SpellsKeygen words seed net target flags
+    → SpellsKeygen words seed' net' target' flags' → SameKeygen seed net target flags seed' net' target' flags'
+same_keygen words seed net target flags seed' net' target' flags' p q =
+    let a = p.words_are in
+    let b = q.words_are in
+    let a_seed = p.seed_is in
+    let b_seed = q.seed_is in
+    record { seed_is = cc; net_is = cc; target_is = cc; flags_are = cc }
+
+-- the words after the first one, where the first is the same
+same_rest : (words rest rest' : List (List ℕ)) (first : List ℕ) → words ≡ first ∷ rest → words ≡ first ∷ rest' → rest ≡ rest'
+same_rest words rest rest' first a b = cc
 
 -- the words spell one command
 same_command : (words : List (List ℕ)) (a b : Task) → Spells words a → Spells words b → a ≡ b
 same_command words (sum file) (sum other) p q = let a = p.0 in let b = q.0 in let same : file ≡ other = cc in ap sum same
 same_command words (sum file) (keygen seed net target) p q = let a = p.0 in let b = q.1 in absurd cc
+same_command words (sum file) (keygen_seeds seed net target) p q = let a = p.0 in let b = q.1 in absurd cc
+same_command words (sum file) (migrate keys target) p q = let a = p.0 in let b = q.0 in absurd cc
 same_command words (keygen seed net target) (sum file) p q = let a = p.1 in let b = q.0 in absurd cc
 same_command words (keygen seed net target) (keygen seed' net' target') p q =
-    let a = p.1 in
-    let b = q.1 in
-    let a_rest = p.2.words_are in
-    let b_rest = q.2.words_are in
-    let a_seed = p.2.seed_is in
-    let b_seed = q.2.seed_is in
-    cc
+    let same = same_keygen q.0 seed net target [] seed' net' target' [] (rw (← same_rest words p.0 q.0 (codes "keygen") p.1 q.1) p.2) q.2 in
+    λ i. keygen (same.seed_is i) (same.net_is i) (same.target_is i)
+same_command words (keygen seed net target) (keygen_seeds seed' net' target') p q =
+    let same = same_keygen q.0 seed net target [] seed' net' target' (codes "--seeds" ∷ []) (rw (← same_rest words p.0 q.0 (codes "keygen") p.1 q.1) p.2) q.2 in
+    let e = same.flags_are in absurd cc
+same_command words (keygen seed net target) (migrate keys other) p q = let a = p.1 in let b = q.0 in absurd cc
+same_command words (keygen_seeds seed net target) (sum file) p q = let a = p.1 in let b = q.0 in absurd cc
+same_command words (keygen_seeds seed net target) (keygen seed' net' target') p q =
+    let same = same_keygen q.0 seed net target (codes "--seeds" ∷ []) seed' net' target' [] (rw (← same_rest words p.0 q.0 (codes "keygen") p.1 q.1) p.2) q.2 in
+    let e = same.flags_are in absurd cc
+same_command words (keygen_seeds seed net target) (keygen_seeds seed' net' target') p q =
+    let same = same_keygen q.0 seed net target (codes "--seeds" ∷ []) seed' net' target' (codes "--seeds" ∷ []) (rw (← same_rest words p.0 q.0 (codes "keygen") p.1 q.1) p.2) q.2 in
+    λ i. keygen_seeds (same.seed_is i) (same.net_is i) (same.target_is i)
+same_command words (keygen_seeds seed net target) (migrate keys other) p q = let a = p.1 in let b = q.0 in absurd cc
+same_command words (migrate keys target) (sum file) p q = let a = p.0 in let b = q.0 in absurd cc
+same_command words (migrate keys target) (keygen seed net other) p q = let a = p.0 in let b = q.1 in absurd cc
+same_command words (migrate keys target) (keygen_seeds seed net other) p q = let a = p.0 in let b = q.1 in absurd cc
+same_command words (migrate keys target) (migrate keys' target') p q = let a = p.0 in let b = q.0 in cc
 
 refused_words : (words : List (List ℕ)) (s s' : ShelfState) (o o' : SinkState) (outcome : Outcome) → Ran words s s' o o' outcome → is_form words ≡ false → outcome ≡ Usage (longest_begun words)
 refused_words words s s' o o' (Usage place) ran refused = ap Usage ran.place_is
@@ -114,6 +160,8 @@ ran_of words command s s' o o' other p ran =
 CommandRan-leaves : (command : Task) (s s' : ShelfState) (o o' : SinkState) (outcome : Outcome) → CommandRan command s s' o o' outcome → Leaves command outcome s s'
 CommandRan-leaves (sum file) s s' o o' outcome ran = SumRan-kept file s s' o o' outcome ran
 CommandRan-leaves (keygen seed net target) s s' o o' outcome ran = MakesOf-leaves (keygen_making seed net target) s s' outcome ran.1
+CommandRan-leaves (keygen_seeds seed net target) s s' o o' outcome ran = MakesOf-leaves (seeds_making seed net target) s s' outcome ran.1
+CommandRan-leaves (migrate keys target) s s' o o' outcome ran = MakesOf-leaves (migrate_making keys target) s s' outcome ran.1
 
 kept_unread : (words : List (List ℕ)) (s s' : ShelfState) (o o' : SinkState) (outcome : Outcome) → is_form words ≡ false → Ran words s s' o o' outcome → s'.holds ≡ s.holds
 kept_unread words s s' o o' (Usage place) refused ran = ap (λ (x : ShelfState). x.holds) ran.shelf_stays
@@ -123,11 +171,15 @@ CommandRan-asked : (command : Task) (s s' : ShelfState) (o o' : SinkState) (outc
     → (files : List (List ℕ)) × AsksFor s command files × AskedUpTo files s s'
 CommandRan-asked (sum file) s s' o o' outcome ran = (file ∷ [], refl, SumRan-asked file s s' o o' outcome ran)
 CommandRan-asked (keygen seed net target) s s' o o' outcome ran = (net ∷ target ∷ [], refl, MakesOf-asked (keygen_making seed net target) s s' outcome ran.1)
+CommandRan-asked (keygen_seeds seed net target) s s' o o' outcome ran = (net ∷ target ∷ [], refl, MakesOf-asked (seeds_making seed net target) s s' outcome ran.1)
+CommandRan-asked (migrate keys target) s s' o o' outcome ran = (keys ∷ target ∷ [], refl, MakesOf-asked (migrate_making keys target) s s' outcome ran.1)
 
 CommandRan-asked_all : (command : Task) (s s' : ShelfState) (o o' : SinkState) → CommandRan command s s' o o' Done
     → (files : List (List ℕ)) × AsksFor s command files × (s'.asked ≡ grown s.asked files)
 CommandRan-asked_all (sum file) s s' o o' ran = (file ∷ [], refl, ran.summed.read.asked)
 CommandRan-asked_all (keygen seed net target) s s' o o' ran = (net ∷ target ∷ [], refl, MakesOf-asked_all (keygen_making seed net target) s s' ran.1)
+CommandRan-asked_all (keygen_seeds seed net target) s s' o o' ran = (net ∷ target ∷ [], refl, MakesOf-asked_all (seeds_making seed net target) s s' ran.1)
+CommandRan-asked_all (migrate keys target) s s' o o' ran = (keys ∷ target ∷ [], refl, MakesOf-asked_all (migrate_making keys target) s s' ran.1)
 
 asked_all : (command : Task) (s s' : ShelfState) (o o' : SinkState) (outcome : Outcome) → outcome ≡ Done → CommandRan command s s' o o' outcome
     → (files : List (List ℕ)) × AsksFor s command files × (s'.asked ≡ grown s.asked files)
@@ -146,6 +198,8 @@ SumRan-silent file s s' o o' other not_done not_sink p = p.0
 CommandRan-silent : (command : Task) (s s' : ShelfState) (o o' : SinkState) (outcome : Outcome) → (outcome ≡ Done → ⊥) → (outcome ≡ SinkFault → ⊥) → CommandRan command s s' o o' outcome → o' ≡ o
 CommandRan-silent (sum file) s s' o o' outcome not_done not_sink p = SumRan-silent file s s' o o' outcome not_done not_sink p
 CommandRan-silent (keygen seed net target) s s' o o' outcome not_done not_sink p = p.0
+CommandRan-silent (keygen_seeds seed net target) s s' o o' outcome not_done not_sink p = p.0
+CommandRan-silent (migrate keys target) s s' o o' outcome not_done not_sink p = p.0
 
 silent : (words : List (List ℕ)) (s s' : ShelfState) (o o' : SinkState) (outcome : Outcome) → (outcome ≡ Done → ⊥) → (outcome ≡ SinkFault → ⊥) → Ran words s s' o o' outcome → o' ≡ o
 silent words s s' o o' (Usage place) not_done not_sink ran = ran.out_stays
@@ -166,6 +220,8 @@ missing_cause : (command : Task) (s s' : ShelfState) (o o' : SinkState) (name : 
     → (s.holds name ≡ absent) ⊎ FailsUntold (s.holds name) s.faults s'.faults
 missing_cause (sum file) s s' o o' name ran = rw ran.1.0 ran.1.1.answer
 missing_cause (keygen seed net target) s s' o o' name ran = MakesOf-missing (keygen_making seed net target) s s' name ran.1
+missing_cause (keygen_seeds seed net target) s s' o o' name ran = MakesOf-missing (seeds_making seed net target) s s' name ran.1
+missing_cause (migrate keys target) s s' o o' name ran = MakesOf-missing (migrate_making keys target) s s' name ran.1
 
 missing : (words : List (List ℕ)) (s s' : ShelfState) (o o' : SinkState) (outcome : Outcome) (name : List ℕ) → outcome ≡ Missing name → Ran words s s' o o' outcome
     → (s.holds name ≡ absent) ⊎ FailsUntold (s.holds name) s.faults s'.faults
@@ -178,15 +234,25 @@ long_cause : (command : Task) (s s' : ShelfState) (o o' : SinkState) (name : Lis
     → (limit : ℕ) × HasLimit s command name limit × (IsHeldAbove (s.holds name) limit ⊎ FailsUntold (s.holds name) s.faults s'.faults)
 long_cause (sum file) s s' o o' name ran = (transcript_limit, (ran.1.0, refl), rw ran.1.0 ran.1.1.answer)
 long_cause (keygen seed net target) s s' o o' name ran = (manifest_limit, (ran.1.0, refl), MakesOf-long (keygen_making seed net target) s s' name ran.1)
+long_cause (keygen_seeds seed net target) s s' o o' name ran = (manifest_limit, (ran.1.0, refl), MakesOf-long (seeds_making seed net target) s s' name ran.1)
+long_cause (migrate keys target) s s' o o' name ran = (key_file_limit, (ran.1.0, refl), MakesOf-long (migrate_making keys target) s s' name ran.1)
 
 too_long : (command : Task) (s s' : ShelfState) (o o' : SinkState) (outcome : Outcome) (name : List ℕ) → outcome ≡ TooLong name → CommandRan command s s' o o' outcome
     → (limit : ℕ) × HasLimit s command name limit × (IsHeldAbove (s.holds name) limit ⊎ FailsUntold (s.holds name) s.faults s'.faults)
 too_long command s s' o o' outcome name e ran = let P : Outcome → Type 0 = λ x. CommandRan command s s' o o' x in long_cause command s s' o o' name (subst P e ran)
 
--- no fault of a transcript is that of a manifest
-no_transcript_fault : (seed : List ℕ) (r : Result Content ManifestFault) (fault : TranscriptFault) → keys_for seed r ≡ Err (Transcript fault) → ⊥
-no_transcript_fault seed (Ok content) fault e = cc
-no_transcript_fault seed (Err seen) fault e = cc
+-- no fault of a transcript is that of a manifest or of a key file
+no_fault_for_keys : (seed : List ℕ) (r : Result Content ManifestFault) (fault : TranscriptFault) → keys_for seed r ≡ Err (Transcript fault) → ⊥
+no_fault_for_keys seed (Ok content) fault e = cc
+no_fault_for_keys seed (Err seen) fault e = cc
+
+no_fault_for_seeds : (seed : List ℕ) (r : Result Content ManifestFault) (fault : TranscriptFault) → seeds_for seed r ≡ Err (Transcript fault) → ⊥
+no_fault_for_seeds seed (Ok content) fault e = cc
+no_fault_for_seeds seed (Err seen) fault e = cc
+
+no_fault_for_pads : (r : Result PadKeys KeyFault) (fault : TranscriptFault) → pads_for r ≡ Err (Transcript fault) → ⊥
+no_fault_for_pads (Ok content) fault e = cc
+no_fault_for_pads (Err seen) fault e = cc
 
 fault_cause : (command : Task) (s s' : ShelfState) (o o' : SinkState) (name bytes : List ℕ) (fault : TranscriptFault) → s.holds name ≡ held bytes
     → CommandRan command s s' o o' (Malformed name (Transcript fault)) → Refused bytes fault
@@ -195,7 +261,9 @@ fault_cause (sum file) s s' o o' name bytes fault told ran =
     let same : ran.1.1.bytes ≡ bytes = told_bytes (s.holds file) bytes ran.1.1.bytes told_file ran.1.1.read.answer.1 in
     let P : List ℕ → Type 0 = λ b. Refused b fault in
     subst P same ran.1.1.holds
-fault_cause (keygen seed net target) s s' o o' name bytes fault told ran = absurd (no_transcript_fault seed (manifest_of ran.1.1.bytes) fault ran.1.1.holds)
+fault_cause (keygen seed net target) s s' o o' name bytes fault told ran = absurd (no_fault_for_keys seed (manifest_of ran.1.1.bytes) fault ran.1.1.holds)
+fault_cause (keygen_seeds seed net target) s s' o o' name bytes fault told ran = absurd (no_fault_for_seeds seed (manifest_of ran.1.1.bytes) fault ran.1.1.holds)
+fault_cause (migrate keys target) s s' o o' name bytes fault told ran = absurd (no_fault_for_pads (keys_from_bytes ran.1.1.bytes) fault ran.1.1.holds)
 
 malformed : (words : List (List ℕ)) (s s' : ShelfState) (o o' : SinkState) (outcome : Outcome) (name bytes : List ℕ) (fault : TranscriptFault)
     → outcome ≡ Malformed name (Transcript fault) → s.holds name ≡ held bytes → Ran words s s' o o' outcome → Refused bytes fault
@@ -223,6 +291,8 @@ SumRan-last file s s' o o' outcome name tells p =
 CommandRan-last : (command : Task) (s s' : ShelfState) (o o' : SinkState) (outcome : Outcome) (name : List ℕ) → TellsName outcome name → CommandRan command s s' o o' outcome → LastAsked name s s'
 CommandRan-last (sum file) s s' o o' outcome name tells p = SumRan-last file s s' o o' outcome name tells p
 CommandRan-last (keygen seed net target) s s' o o' outcome name tells p = MakesOf-last (keygen_making seed net target) s s' outcome name tells p.1
+CommandRan-last (keygen_seeds seed net target) s s' o o' outcome name tells p = MakesOf-last (seeds_making seed net target) s s' outcome name tells p.1
+CommandRan-last (migrate keys target) s s' o o' outcome name tells p = MakesOf-last (migrate_making keys target) s s' outcome name tells p.1
 
 last_asked : (words : List (List ℕ)) (s s' : ShelfState) (o o' : SinkState) (outcome : Outcome) (name : List ℕ) → TellsName outcome name → Ran words s s' o o' outcome → LastAsked name s s'
 last_asked words s s' o o' (Usage place) name tells ran = elim tells [ inl e ↦ absurd cc | inr other ↦ elim other [ inl e ↦ absurd cc | inr m ↦ let e = m.1 in absurd cc ] ]
@@ -231,10 +301,14 @@ last_asked words s s' o o' other name tells ran = CommandRan-last ran.command s 
 shelf_rose : (command : Task) (s s' : ShelfState) (o o' : SinkState) → CommandRan command s s' o o' ShelfFault → Rose s.faults s'.faults
 shelf_rose (sum file) s s' o o' ran = ran.1.answer
 shelf_rose (keygen seed net target) s s' o o' ran = MakesOf-rose (keygen_making seed net target) s s' ran.1
+shelf_rose (keygen_seeds seed net target) s s' o o' ran = MakesOf-rose (seeds_making seed net target) s s' ran.1
+shelf_rose (migrate keys target) s s' o o' ran = MakesOf-rose (migrate_making keys target) s s' ran.1
 
 sink_rose : (command : Task) (s s' : ShelfState) (o o' : SinkState) → CommandRan command s s' o o' SinkFault → Rose o.faults o'.faults
 sink_rose (sum file) s s' o o' ran = ran.1.put.answer.1
 sink_rose (keygen seed net target) s s' o o' ran = absurd ran.1
+sink_rose (keygen_seeds seed net target) s s' o o' ran = absurd ran.1
+sink_rose (migrate keys target) s s' o o' ran = absurd ran.1
 
 shelf_cause : (words : List (List ℕ)) (s s' : ShelfState) (o o' : SinkState) (outcome : Outcome) → outcome ≡ ShelfFault → Ran words s s' o o' outcome → Rose s.faults s'.faults
 shelf_cause words s s' o o' outcome e ran =
@@ -367,20 +441,48 @@ MakesFile-run c m silent ran =
       fault = λ name read fault e told. MakesOf-fault m c.shelf c.shelf' name read fault told (subst P e ran);
     }
 
-pub RunsKeygen-run : (c : Call) → HasRun c → RunsKeygen c
-RunsKeygen-run c ran = λ seed net target p. let q = HasRun-as c (keygen seed net target) p ran in MakesFile-run c (keygen_making seed net target) q.0 q.1
+-- by the command
+MakesFiles-ran : (c : Call) (command : Task) (m : Making) → making_of command ≡ Some m → CommandRan command c.shelf c.shelf' c.out c.out' c.outcome → MakesFile c m
+MakesFiles-ran c (sum file) m e ran = absurd cc
+MakesFiles-ran c (keygen seed net target) m e ran = let same : keygen_making seed net target ≡ m = cc in rw (← same) (MakesFile-run c (keygen_making seed net target) ran.0 ran.1)
+MakesFiles-ran c (keygen_seeds seed net target) m e ran = let same : seeds_making seed net target ≡ m = cc in rw (← same) (MakesFile-run c (seeds_making seed net target) ran.0 ran.1)
+MakesFiles-ran c (migrate keys target) m e ran = let same : migrate_making keys target ≡ m = cc in rw (← same) (MakesFile-run c (migrate_making keys target) ran.0 ran.1)
 
--- what a manifest with a key file is
+pub MakesFiles-run : (c : Call) → HasRun c → MakesFiles c
+MakesFiles-run c ran = λ command m p e. MakesFiles-ran c command m e (HasRun-as c command p ran)
+
+same_bytes : (xs ys : List ℕ) (r : Result (List ℕ) FileFault) → r ≡ Ok ys → Ok xs ≡ r → ys ≡ xs
+same_bytes xs ys r a b = cc
+
+-- what a manifest or a key file is that makes a file, and what it makes
 keys_of : (seed : List ℕ) (r : Result Content ManifestFault) (bytes : List ℕ) → keys_for seed r ≡ Ok bytes
     → (content : Content) × (r ≡ Ok content) × (bytes ≡ keys_bytes (generated_keys seed content.graph content.words))
 keys_of seed (Ok content) bytes e = (content, refl, same_bytes (keys_bytes (generated_keys seed content.graph content.words)) bytes (Ok bytes) refl e)
-  where
-    same_bytes : (xs ys : List ℕ) (r : Result (List ℕ) FileFault) → r ≡ Ok ys → Ok xs ≡ r → ys ≡ xs
-    same_bytes xs ys r a b = cc
 keys_of seed (Err fault) bytes e = absurd cc
+
+seeds_with : (seed : List ℕ) (r : Result Content ManifestFault) (bytes : List ℕ) → seeds_for seed r ≡ Ok bytes
+    → (content : Content) × (r ≡ Ok content) × (bytes ≡ seeds_bytes (seeds_of seed content.graph content.words))
+seeds_with seed (Ok content) bytes e = (content, refl, same_bytes (seeds_bytes (seeds_of seed content.graph content.words)) bytes (Ok bytes) refl e)
+seeds_with seed (Err fault) bytes e = absurd cc
+
+pads_of : (r : Result PadKeys KeyFault) (bytes : List ℕ) → pads_for r ≡ Ok bytes → (keys : PadKeys) × (r ≡ Ok keys) × (bytes ≡ keys_bytes keys)
+pads_of (Ok keys) bytes e = (keys, refl, same_bytes (keys_bytes keys) bytes (Ok bytes) refl e)
+pads_of (Err fault) bytes e = absurd cc
 
 pub WritesKeys-run : (c : Call) → HasRun c → WritesKeys c
 WritesKeys-run c ran = λ e seed net target read p told.
-    let w = (RunsKeygen-run c ran seed net target p).written e read told in
+    let w = (MakesFiles-run c ran (keygen seed net target) (keygen_making seed net target) p refl).written e read told in
     let k = keys_of seed (manifest_of read) w.0 w.1 in
+    (k.0, k.1, w.2 ∙ ap (λ (bytes : List ℕ). rewritten (c.shelf.holds target) bytes) k.2)
+
+pub WritesSeeds-run : (c : Call) → HasRun c → WritesSeeds c
+WritesSeeds-run c ran = λ e seed net target read p told.
+    let w = (MakesFiles-run c ran (keygen_seeds seed net target) (seeds_making seed net target) p refl).written e read told in
+    let k = seeds_with seed (manifest_of read) w.0 w.1 in
+    (k.0, k.1, w.2 ∙ ap (λ (bytes : List ℕ). rewritten (c.shelf.holds target) bytes) k.2)
+
+pub WritesPads-run : (c : Call) → HasRun c → WritesPads c
+WritesPads-run c ran = λ e file target read p told.
+    let w = (MakesFiles-run c ran (migrate file target) (migrate_making file target) p refl).written e read told in
+    let k = pads_of (keys_from_bytes read) w.0 w.1 in
     (k.0, k.1, w.2 ∙ ap (λ (bytes : List ℕ). rewritten (c.shelf.holds target) bytes) k.2)

@@ -2,7 +2,7 @@
 use Rattle.std.proofs.Common.{◌≡◌, ◌≤◌, ◌++◌, ℕ, List, [], ◌∷◌, length, Option, refl, sym, ap, ◌∙◌, subst, append-nil, arith}
 use Rattle.dc_spec.specs.Outside.{ShelfState, Holding, absent, held, Tells, grown, IsFront}
 use Rattle.dc_edge.specs.Shelf.{IsHeldAbove, OthersStay}
-use Rattle.dc_cli.proofs.PutLemmas.{grown-grown, grown-nothing}
+use Rattle.dc_edge.proofs.PutLemmas.{grown-grown, grown-nothing}
 
 -- the bytes that are read of a known file
 pub told_bytes : (told : Holding) (bytes read : List ℕ) → told ≡ held bytes → Tells told read → read ≡ bytes

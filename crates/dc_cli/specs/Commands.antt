@@ -1,18 +1,20 @@
 -- Commands, and the words that spell them.
 use Rattle.std.specs.Prelude.{ℕ, ◌+◌, ◌≡◌, false, List, [], ◌∷◌, codes, IsTrue, Some, Result, Ok, Err}
-use Rattle.dc_cli.specs.Forms.{name, seed_word, is_name, seed_in, begun, spells, is_form, longest_begun}
+use Rattle.dc_cli.specs.Forms.{literal, name, keygen_slots, seeds_slots, is_name, seed_in, begun, spells, is_form, longest_begun}
 use Rattle.dc_cli.specs.declared.command.Command.{Command}
-use Rattle.dc_cli.specs.declared.command.Command.TheVariants.{Sum, Keygen}
+use Rattle.dc_cli.specs.declared.command.Command.TheVariants.{Sum, Keygen, KeygenSeeds, Migrate}
 
 -- a command with its arguments
 pub data Task : Type 0 where
   sum : List ℕ → Task
   keygen : List ℕ → List ℕ → List ℕ → Task
+  keygen_seeds : List ℕ → List ℕ → List ℕ → Task
+  migrate : List ℕ → List ℕ → Task
 
--- the words spell a seed, the name of a manifest and the name of the key file that is written
-pub record SpellsKeygen (words : List (List ℕ)) (seed net target : List ℕ) : Type 0 where
+-- the words spell a seed, the name of a manifest and the name of the key file that is written, and these are left
+pub record SpellsKeygen (words : List (List ℕ)) (seed net target : List ℕ) (flags : List (List ℕ)) : Type 0 where
   pub digits : List ℕ
-  pub words_are : words ≡ digits ∷ net ∷ target ∷ []
+  pub words_are : words ≡ digits ∷ net ∷ target ∷ flags
   pub seed_is : seed_in digits ≡ Some seed
   pub net_is : IsTrue (is_name net)
   pub target_is : IsTrue (is_name target)
@@ -20,12 +22,16 @@ pub record SpellsKeygen (words : List (List ℕ)) (seed net target : List ℕ) :
 -- the words spell the command
 abbrev pub Spells : List (List ℕ) → Task → Type 0
 Spells words (sum file) = (words ≡ codes "sum" ∷ file ∷ []) × IsTrue (is_name file)
-Spells words (keygen seed net target) = (rest : List (List ℕ)) × (words ≡ codes "keygen" ∷ rest) × SpellsKeygen rest seed net target
+Spells words (keygen seed net target) = (rest : List (List ℕ)) × (words ≡ codes "keygen" ∷ rest) × SpellsKeygen rest seed net target []
+Spells words (keygen_seeds seed net target) = (rest : List (List ℕ)) × (words ≡ codes "keygen" ∷ rest) × SpellsKeygen rest seed net target (codes "--seeds" ∷ [])
+Spells words (migrate keys target) = (words ≡ codes "migrate" ∷ keys ∷ target ∷ []) × IsTrue (is_name keys) × IsTrue (is_name target)
 
 -- the command that was read
 abbrev pub task_of : Command → Task
 task_of (Sum file) = sum file.now
 task_of (Keygen seed net target) = keygen seed net.now target.now
+task_of (KeygenSeeds seed net target) = keygen_seeds seed net.now target.now
+task_of (Migrate keys target) = migrate keys.now target.now
 
 -- the words were read as the command that they spell, or are not a form
 abbrev pub ReadsAs : List (List ℕ) → Result Command ℕ → Type 0
@@ -35,17 +41,40 @@ ReadsAs words (Err place) = (is_form words ≡ false) × (place ≡ longest_begu
 -- the words after `sum` were read as its file, or do not fit
 abbrev pub ReadsAsFile : List (List ℕ) → Result Command ℕ → Type 0
 ReadsAsFile words (Ok (Sum file)) = (words ≡ file.now ∷ []) × IsTrue (is_name file.now)
-ReadsAsFile words (Ok (Keygen seed net target)) = ⊥
+ReadsAsFile words (Ok _) = ⊥
 ReadsAsFile words (Err place) = (spells (name ∷ []) words ≡ false) × (place ≡ 1 + begun (name ∷ []) words)
 
--- the words after `keygen` were read as its seed and its names, or do not fit
+-- the words after `keygen` were read as its seed, its names and its flag, or do not fit
 abbrev pub ReadsAsKeygen : List (List ℕ) → Result Command ℕ → Type 0
-ReadsAsKeygen words (Ok (Keygen seed net target)) = SpellsKeygen words seed net.now target.now
-ReadsAsKeygen words (Ok (Sum file)) = ⊥
-ReadsAsKeygen words (Err place) = (spells (seed_word ∷ name ∷ name ∷ []) words ≡ false) × (place ≡ 1 + begun (seed_word ∷ name ∷ name ∷ []) words)
+ReadsAsKeygen words (Ok (Keygen seed net target)) = SpellsKeygen words seed net.now target.now []
+ReadsAsKeygen words (Ok (KeygenSeeds seed net target)) = SpellsKeygen words seed net.now target.now (codes "--seeds" ∷ [])
+ReadsAsKeygen words (Ok _) = ⊥
+ReadsAsKeygen words (Err place) = (spells keygen_slots words ≡ false) × (spells seeds_slots words ≡ false) × (place ≡ 1 + begun seeds_slots words)
 
--- the words after the seed were read as the names of `keygen`, or do not fit
+-- two names of `keygen`, and the words after them
+pub record NamesKeygen (words : List (List ℕ)) (net target : List ℕ) (flags : List (List ℕ)) : Type 0 where
+  pub words_are : words ≡ net ∷ target ∷ flags
+  pub net_is : IsTrue (is_name net)
+  pub target_is : IsTrue (is_name target)
+
+-- the words after the seed were read as the names of `keygen` and its flag, or do not fit
 abbrev pub ReadsAsNames : List ℕ → List (List ℕ) → Result Command ℕ → Type 0
-ReadsAsNames seed words (Ok (Keygen bytes net target)) = (bytes ≡ seed) × (words ≡ net.now ∷ target.now ∷ []) × IsTrue (is_name net.now) × IsTrue (is_name target.now)
-ReadsAsNames seed words (Ok (Sum file)) = ⊥
-ReadsAsNames seed words (Err place) = (spells (name ∷ name ∷ []) words ≡ false) × (place ≡ 2 + begun (name ∷ name ∷ []) words)
+ReadsAsNames seed words (Ok (Keygen bytes net target)) = (bytes ≡ seed) × NamesKeygen words net.now target.now []
+ReadsAsNames seed words (Ok (KeygenSeeds bytes net target)) = (bytes ≡ seed) × NamesKeygen words net.now target.now (codes "--seeds" ∷ [])
+ReadsAsNames seed words (Ok _) = ⊥
+ReadsAsNames seed words (Err place) = (spells (name ∷ name ∷ []) words ≡ false) × (spells (name ∷ name ∷ literal (codes "--seeds") ∷ []) words ≡ false)
+    × (place ≡ 2 + begun (name ∷ name ∷ literal (codes "--seeds") ∷ []) words)
+
+-- the words after the names were read as the flag of `keygen`, or do not fit
+abbrev pub ReadsAsFlag : List ℕ → List ℕ → List ℕ → List (List ℕ) → Result Command ℕ → Type 0
+ReadsAsFlag seed net target words (Ok (Keygen s n t)) = (s ≡ seed) × (n.now ≡ net) × (t.now ≡ target) × (words ≡ [])
+ReadsAsFlag seed net target words (Ok (KeygenSeeds s n t)) = (s ≡ seed) × (n.now ≡ net) × (t.now ≡ target) × (words ≡ codes "--seeds" ∷ [])
+ReadsAsFlag seed net target words (Ok _) = ⊥
+ReadsAsFlag seed net target words (Err place) = (spells [] words ≡ false) × (spells (literal (codes "--seeds") ∷ []) words ≡ false)
+    × (place ≡ 4 + begun (literal (codes "--seeds") ∷ []) words)
+
+-- the words after `migrate` were read as its names, or do not fit
+abbrev pub ReadsAsMigrate : List (List ℕ) → Result Command ℕ → Type 0
+ReadsAsMigrate words (Ok (Migrate keys target)) = (words ≡ keys.now ∷ target.now ∷ []) × IsTrue (is_name keys.now) × IsTrue (is_name target.now)
+ReadsAsMigrate words (Ok _) = ⊥
+ReadsAsMigrate words (Err place) = (spells (name ∷ name ∷ []) words ≡ false) × (place ≡ 1 + begun (name ∷ name ∷ []) words)

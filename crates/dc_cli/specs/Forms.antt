@@ -44,11 +44,20 @@ spells [] (_ ∷ _) = false
 spells (slot ∷ slots) [] = false
 spells (slot ∷ slots) (word ∷ words) = fits slot word && spells slots words
 
+-- what stands after `keygen`: a seed, the name of a manifest and the name of the key file; a flag more for a key file of seeds
+abbrev pub keygen_slots : List Slot
+keygen_slots = seed_word ∷ name ∷ name ∷ []
+
+abbrev pub seeds_slots : List Slot
+seeds_slots = seed_word ∷ name ∷ name ∷ literal (codes "--seeds") ∷ []
+
 -- all forms of the command line
 abbrev pub forms : List (List Slot)
 forms =
     (literal (codes "sum") ∷ name ∷ [])
-    ∷ (literal (codes "keygen") ∷ seed_word ∷ name ∷ name ∷ [])
+    ∷ (literal (codes "keygen") ∷ keygen_slots)
+    ∷ (literal (codes "keygen") ∷ seeds_slots)
+    ∷ (literal (codes "migrate") ∷ name ∷ name ∷ [])
     ∷ []
 
 -- the words are one of the forms

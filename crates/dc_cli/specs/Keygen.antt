@@ -1,16 +1,14 @@
 -- The command `keygen`: a manifest is read, and the key file that a seed generates for its net is written.
 use Rattle.std.specs.Prelude.{ℕ, List, Result, Ok, Err}
-use Rattle.dc_spec.specs.Outside.{ShelfState}
 use Rattle.dc_spec.specs.Limits.{manifest_limit}
 use Rattle.dc_formats.specs.KeyFile.{keys_bytes}
 use Rattle.dc_keyfile.specs.Generator.{generated_keys}
 use Rattle.dc_manifest.specs.Content.{Content}
 use Rattle.dc_manifest.specs.Reading.{manifest_of}
 use Rattle.dc_manifest.specs.declared.fault.ManifestFault.{ManifestFault}
-use Rattle.dc_cli.specs.Making.{Making, MakesOf}
+use Rattle.dc_cli.specs.Making.{Making}
 use Rattle.dc_cli.specs.declared.outcome.FileFault.{FileFault}
 use Rattle.dc_cli.specs.declared.outcome.FileFault.TheVariants.{Manifest}
-use Rattle.dc_cli.specs.declared.outcome.Outcome.{Outcome}
 
 -- the key file that a seed generates for the graph and the words of a manifest, or the manifest's fault
 abbrev pub keys_for : List ℕ → Result Content ManifestFault → Result (List ℕ) FileFault
@@ -24,7 +22,3 @@ generated_file seed bytes = keys_for seed (manifest_of bytes)
 -- `keygen` makes the key file of a manifest
 abbrev pub keygen_making : List ℕ → List ℕ → List ℕ → Making
 keygen_making seed net target = record { due = generated_file seed; source = net; limit = manifest_limit; target = target }
-
--- what `keygen` did with the shelf, by its outcome
-abbrev pub KeygenRan : List ℕ → List ℕ → List ℕ → ShelfState → ShelfState → Outcome → Type 0
-KeygenRan seed net target before after outcome = MakesOf (keygen_making seed net target) before after outcome

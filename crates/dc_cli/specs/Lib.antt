@@ -9,5 +9,7 @@ pub mod Reading
 pub mod Summing
 pub mod Making
 pub mod Keygen
+pub mod KeygenSeeds
+pub mod Migrating
 pub mod Ran
 pub mod Promises

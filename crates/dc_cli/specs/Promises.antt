@@ -1,21 +1,26 @@
 -- The promises of a call in its reader's words; each follows from what the call did by its outcome.
-use Rattle.std.specs.Prelude.{String, ℕ, ◌≡◌, ◌≤◌, ◌⊎◌, List, [], ◌∷◌, ◌++◌, length, false, Ok, Err}
+use Rattle.std.specs.Prelude.{String, ℕ, ◌≡◌, ◌≤◌, ◌⊎◌, List, [], ◌∷◌, ◌++◌, length, false, Option, Some, None, Ok, Err}
 use Rattle.dc_spec.specs.Outside.{ShelfState, SinkState, absent, held, Rose, grown, IsFront}
-use Rattle.dc_spec.specs.Limits.{transcript_limit, manifest_limit}
+use Rattle.dc_spec.specs.Limits.{transcript_limit, manifest_limit, key_file_limit}
+use Rattle.dc_spec.specs.Pads.{Keys}
 use Rattle.dc_spec.specs.Recorded.{Recorded, IsRecorded, transcript_bytes, superposed}
 use Rattle.dc_spec.specs.Text.{words_text}
 use Rattle.dc_edge.specs.Shelf.{IsHeldAbove, FailsUntold, OthersStay, rewritten}
 use Rattle.dc_formats.specs.KeyFile.{keys_bytes}
-use Rattle.dc_keyfile.specs.Generator.{generated_keys}
+use Rattle.dc_formats.specs.SeedFile.{seeds_bytes}
+use Rattle.dc_keyfile.specs.Generator.{generated_keys, seeds_of}
+use Rattle.dc_keyfile.specs.Reading.{keys_from_bytes}
 use Rattle.dc_manifest.specs.Content.{Content}
 use Rattle.dc_manifest.specs.Reading.{manifest_of}
 use Rattle.dc_superpose.specs.Reading.{transcript_of}
 use Rattle.dc_superpose.specs.declared.fault.TranscriptFault.{TranscriptFault}
 use Rattle.dc_cli.specs.Forms.{texts, is_form, longest_begun}
-use Rattle.dc_cli.specs.Commands.{Task, sum, keygen, Spells}
+use Rattle.dc_cli.specs.Commands.{Task, sum, keygen, keygen_seeds, migrate, Spells}
 use Rattle.dc_cli.specs.Summing.{Refused}
 use Rattle.dc_cli.specs.Making.{Making}
 use Rattle.dc_cli.specs.Keygen.{keygen_making}
+use Rattle.dc_cli.specs.KeygenSeeds.{seeds_making}
+use Rattle.dc_cli.specs.Migrating.{migrate_making}
 use Rattle.dc_cli.specs.declared.outcome.Outcome.{Outcome}
 use Rattle.dc_cli.specs.declared.outcome.Outcome.TheVariants.{Done, Usage, Missing, TooLong, Malformed, ShelfFault, SinkFault, NoMemory}
 use Rattle.dc_cli.specs.declared.outcome.FileFault.{FileFault}
@@ -39,6 +44,8 @@ call shelf_state sink_state words shelf shelf' out out' outcome =
 abbrev pub AsksFor : ShelfState → Task → List (List ℕ) → Type 0
 AsksFor shelf (sum file) files = files ≡ file ∷ []
 AsksFor shelf (keygen seed net target) files = files ≡ net ∷ target ∷ []
+AsksFor shelf (keygen_seeds seed net target) files = files ≡ net ∷ target ∷ []
+AsksFor shelf (migrate keys target) files = files ≡ keys ∷ target ∷ []
 
 -- words that are not a form are refused, and no others are
 pub record RefusesOtherWords (c : Call) : Type 0 where
@@ -55,6 +62,8 @@ LeavesOthers target other before after = after.holds ≡ before.holds
 abbrev pub Leaves : Task → Outcome → ShelfState → ShelfState → Type 0
 Leaves (sum file) outcome before after = after.holds ≡ before.holds
 Leaves (keygen seed net target) outcome before after = LeavesOthers target outcome before after
+Leaves (keygen_seeds seed net target) outcome before after = LeavesOthers target outcome before after
+Leaves (migrate keys target) outcome before after = LeavesOthers target outcome before after
 
 -- each file stays, unless the command of the words writes it
 pub record KeepsFiles (c : Call) : Type 0 where
@@ -88,6 +97,8 @@ PrintsSums c = c.outcome ≡ Done → (file bytes : List ℕ) → Spells c.words
 abbrev pub HasLimit : ShelfState → Task → List ℕ → ℕ → Type 0
 HasLimit shelf (sum file) name limit = (name ≡ file) × (limit ≡ transcript_limit)
 HasLimit shelf (keygen seed net target) name limit = (name ≡ net) × (limit ≡ manifest_limit)
+HasLimit shelf (keygen_seeds seed net target) name limit = (name ≡ net) × (limit ≡ manifest_limit)
+HasLimit shelf (migrate keys target) name limit = (name ≡ keys) × (limit ≡ key_file_limit)
 
 -- the outcome reports a name
 abbrev pub TellsName : Outcome → List ℕ → Type 0
@@ -142,12 +153,30 @@ pub record MakesFile (c : Call) (m : Making) : Type 0 where
   -- a reported fault is that of the file, where it is known
   pub fault : (name read : List ℕ) → (fault : FileFault) → c.outcome ≡ Malformed name fault → c.shelf.holds m.source ≡ held read → m.due read ≡ Err fault
 
--- `keygen` makes the key file that a seed generates for the graph and the words of a manifest
-abbrev pub RunsKeygen : Call → Type 0
-RunsKeygen c = (seed net target : List ℕ) → Spells c.words (keygen seed net target) → MakesFile c (keygen_making seed net target)
+-- the commands that make one file of another
+abbrev pub making_of : Task → Option Making
+making_of (sum file) = None
+making_of (keygen seed net target) = Some (keygen_making seed net target)
+making_of (keygen_seeds seed net target) = Some (seeds_making seed net target)
+making_of (migrate keys target) = Some (migrate_making keys target)
+
+-- each of these makes its file
+abbrev pub MakesFiles : Call → Type 0
+MakesFiles c = (command : Task) (m : Making) → Spells c.words command → making_of command ≡ Some m → MakesFile c m
 
 -- where `keygen` is done and the manifest is known, the target holds the key file of the generated keys, unless nothing was known of the target
 abbrev pub WritesKeys : Call → Type 0
 WritesKeys c = c.outcome ≡ Done → (seed net target bytes : List ℕ) → Spells c.words (keygen seed net target) → c.shelf.holds net ≡ held bytes →
     (content : Content) × (manifest_of bytes ≡ Ok content)
     × (c.shelf'.holds target ≡ rewritten (c.shelf.holds target) (keys_bytes (generated_keys seed content.graph content.words)))
+
+-- the same of `keygen --seeds`: the target holds the key file in which each edge has the seed
+abbrev pub WritesSeeds : Call → Type 0
+WritesSeeds c = c.outcome ≡ Done → (seed net target bytes : List ℕ) → Spells c.words (keygen_seeds seed net target) → c.shelf.holds net ≡ held bytes →
+    (content : Content) × (manifest_of bytes ≡ Ok content)
+    × (c.shelf'.holds target ≡ rewritten (c.shelf.holds target) (seeds_bytes (seeds_of seed content.graph content.words)))
+
+-- the same of `migrate`: the target holds the key file of the pads of the known key file
+abbrev pub WritesPads : Call → Type 0
+WritesPads c = c.outcome ≡ Done → (file target bytes : List ℕ) → Spells c.words (migrate file target) → c.shelf.holds file ≡ held bytes →
+    (keys : Keys) × (keys_from_bytes bytes ≡ Ok keys) × (c.shelf'.holds target ≡ rewritten (c.shelf.holds target) (keys_bytes keys))

@@ -5,9 +5,12 @@ use Rattle.dc_edge.specs.Sink.{Puts}
 use Rattle.dc_edge.specs.declared.fault.Failed.{Failed}
 use Rattle.dc_cli.specs.Lines.{fault_line}
 use Rattle.dc_cli.specs.Forms.{is_form, longest_begun}
-use Rattle.dc_cli.specs.Commands.{Task, sum, keygen, Spells}
+use Rattle.dc_cli.specs.Commands.{Task, sum, keygen, keygen_seeds, migrate, Spells}
 use Rattle.dc_cli.specs.Summing.{SumRan}
-use Rattle.dc_cli.specs.Keygen.{KeygenRan}
+use Rattle.dc_cli.specs.Making.{MakesOf}
+use Rattle.dc_cli.specs.Keygen.{keygen_making}
+use Rattle.dc_cli.specs.KeygenSeeds.{seeds_making}
+use Rattle.dc_cli.specs.Migrating.{migrate_making}
 use Rattle.dc_cli.specs.declared.outcome.Outcome.{Outcome}
 use Rattle.dc_cli.specs.declared.outcome.Outcome.TheVariants.{Usage}
 
@@ -21,7 +24,9 @@ pub record RefusedWords (words : List (List ℕ)) (place : ℕ) (shelf shelf' : 
 -- what a command did, by its outcome
 abbrev pub CommandRan : Task → ShelfState → ShelfState → SinkState → SinkState → Outcome → Type 0
 CommandRan (sum file) shelf shelf' out out' outcome = SumRan file shelf shelf' out out' outcome
-CommandRan (keygen seed net target) shelf shelf' out out' outcome = (out' ≡ out) × KeygenRan seed net target shelf shelf' outcome
+CommandRan (keygen seed net target) shelf shelf' out out' outcome = (out' ≡ out) × MakesOf (keygen_making seed net target) shelf shelf' outcome
+CommandRan (keygen_seeds seed net target) shelf shelf' out out' outcome = (out' ≡ out) × MakesOf (seeds_making seed net target) shelf shelf' outcome
+CommandRan (migrate keys target) shelf shelf' out out' outcome = (out' ≡ out) × MakesOf (migrate_making keys target) shelf shelf' outcome
 
 -- the command that the words spell, and what it did
 pub record RanCommand (words : List (List ℕ)) (shelf shelf' : ShelfState) (out out' : SinkState) (outcome : Outcome) : Type 0 where

@@ -2,7 +2,7 @@
 
 ghost use Rattle.std.specs.Prelude.{◌≡◌, ◌∷◌};
 ghost use Rattle.dc_cli.specs.Forms.{texts, is_name as name_test, seed_in};
-ghost use Rattle.dc_cli.specs.Commands.{ReadsAs, ReadsAsFile, ReadsAsKeygen, ReadsAsNames};
+ghost use Rattle.dc_cli.specs.Commands.{ReadsAs, ReadsAsFile, ReadsAsKeygen, ReadsAsNames, ReadsAsFlag, ReadsAsMigrate};
 
 use dc_text::{Digits, decode_payload, payload_length};
 
@@ -17,6 +17,17 @@ pub enum Command<'a> {
     Keygen {
         seed: [u8; 32],
         net: &'a str,
+        target: &'a str,
+    },
+    /// Writes the key file of seeds, in which each edge of the net of a manifest has this seed.
+    KeygenSeeds {
+        seed: [u8; 32],
+        net: &'a str,
+        target: &'a str,
+    },
+    /// Writes the key file of the pads of a key file.
+    Migrate {
+        keys: &'a str,
         target: &'a str,
     },
 }
@@ -37,6 +48,7 @@ fn command_with<'a>(verb: &str, rest: &'a [String]) -> Result<Command<'a>, u32>
     match verb {
         "sum" => sum_of(rest),
         "keygen" => keygen_of(rest),
+        "migrate" => migrate_of(rest),
         _ => Err(0),
     }
 }
@@ -69,16 +81,43 @@ fn keygen_with(seed: [u8; 32], names: &[String]) -> Result<Command<'_>, u32>
     ensures { ReadsAsNames seed (texts names.now) result }
 {
     match names {
-        [net, target] if is_name(net.as_str()) && is_name(target.as_str()) => {
-            Ok(Command::Keygen {
-                seed,
-                net: net.as_str(),
+        [net, target, flags @ ..] if is_name(net.as_str()) && is_name(target.as_str()) => {
+            keygen_by(seed, net.as_str(), target.as_str(), flags)
+        }
+        [net, ..] if is_name(net.as_str()) => Err(3),
+        _ => Err(2),
+    }
+}
+
+fn keygen_by<'a>(
+    seed: [u8; 32],
+    net: &'a str,
+    target: &'a str,
+    flags: &[String],
+) -> Result<Command<'a>, u32>
+    ensures { ReadsAsFlag seed net.now target.now (texts flags.now) result }
+{
+    match flags {
+        [] => Ok(Command::Keygen { seed, net, target }),
+        [flag] if flag.as_str() == "--seeds" => Ok(Command::KeygenSeeds { seed, net, target }),
+        [flag, _, ..] if flag.as_str() == "--seeds" => Err(5),
+        _ => Err(4),
+    }
+}
+
+fn migrate_of(names: &[String]) -> Result<Command<'_>, u32>
+    ensures { ReadsAsMigrate (texts names.now) result }
+{
+    match names {
+        [keys, target] if is_name(keys.as_str()) && is_name(target.as_str()) => {
+            Ok(Command::Migrate {
+                keys: keys.as_str(),
                 target: target.as_str(),
             })
         }
-        [net, target, _, ..] if is_name(net.as_str()) && is_name(target.as_str()) => Err(4),
-        [net, ..] if is_name(net.as_str()) => Err(3),
-        _ => Err(2),
+        [keys, target, _, ..] if is_name(keys.as_str()) && is_name(target.as_str()) => Err(3),
+        [keys, ..] if is_name(keys.as_str()) => Err(2),
+        _ => Err(1),
     }
 }
 

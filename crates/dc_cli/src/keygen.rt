@@ -4,8 +4,8 @@ ghost use Rattle.std.specs.Prelude.{◌≡◌, IfOk};
 ghost use Rattle.dc_spec.specs.Limits.{manifest_limit};
 ghost use Rattle.dc_formats.specs.KeyFile.{keys_bytes};
 ghost use Rattle.dc_keyfile.specs.Generator.{generated_keys};
-ghost use Rattle.dc_cli.specs.Making.{MadeOfBytes, MadeOfFile};
-ghost use Rattle.dc_cli.specs.Keygen.{KeygenRan, generated_file};
+ghost use Rattle.dc_cli.specs.Making.{MadeOfBytes, MadeOfFile, MakesOf};
+ghost use Rattle.dc_cli.specs.Keygen.{generated_file, keygen_making};
 
 use crate::outcome::{FileFault, Outcome};
 use crate::reading::{malformed, read_file};
@@ -24,7 +24,8 @@ pub fn run_keygen<F: Shelf>(
     target: &str,
     shelf: &mut F,
 ) -> Outcome
-    ensures { KeygenRan seed.now net.now target.now (F.state shelf.old) (F.state shelf.new) result }
+    ensures { MakesOf (keygen_making seed.now net.now target.now)
+        (F.state shelf.old) (F.state shelf.new) result }
 {
     match keys_of_file(alloc, seed, net, shelf) {
         Ok(bytes) => write_file(alloc, shelf, target, bytes.as_slice()),

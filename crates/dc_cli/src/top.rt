@@ -2,12 +2,14 @@
 
 ghost use Rattle.dc_cli.specs.Forms.{texts};
 ghost use Rattle.dc_cli.specs.Commands.{task_of};
-ghost use Rattle.dc_cli.specs.Promises.{call, RefusesOtherWords, PrintsSums, Completes, AsksInOrder, TellsTheLast, KeepsFiles, PrintsOnlyWhenDone, MissesTheAbsent, RefusesTheLong, RefusesTheMalformed, TellsTheFault, HasCauses, WritesKeys, RunsKeygen};
+ghost use Rattle.dc_cli.specs.Promises.{call, RefusesOtherWords, PrintsSums, Completes, AsksInOrder, TellsTheLast, KeepsFiles, PrintsOnlyWhenDone, MissesTheAbsent, RefusesTheLong, RefusesTheMalformed, TellsTheFault, HasCauses, WritesKeys, WritesSeeds, WritesPads, MakesFiles};
 ghost use Rattle.dc_cli.specs.Ran.{Ran, CommandRan, PutsLine};
 
 use crate::command::{Command, command_of};
 use crate::fault_line::put_fault;
 use crate::keygen::run_keygen;
+use crate::keygen_seeds::run_keygen_seeds;
+use crate::migrate::run_migrate;
 use crate::outcome::Outcome;
 use crate::summing::run_sum;
 use dc_edge::{Gate, Shelf, Sink};
@@ -54,26 +56,37 @@ pub fn dcnet<R: Threads + Sync, F: Shelf, K: Sink, E: Sink, G: Gate + Sync>(
         (call F.state K.state words.now shelf.old shelf.new out.old out.new result) }
     ensures keys { WritesKeys
         (call F.state K.state words.now shelf.old shelf.new out.old out.new result) }
-    ensures keygen { RunsKeygen
+    ensures seeds { WritesSeeds
+        (call F.state K.state words.now shelf.old shelf.new out.old out.new result) }
+    ensures pads { WritesPads
+        (call F.state K.state words.now shelf.old shelf.new out.old out.new result) }
+    ensures makes { MakesFiles
         (call F.state K.state words.now shelf.old shelf.new out.old out.new result) }
 {
-    let outcome = run(alloc, words, shelf, out);
+    let outcome = run(rt, alloc, words, shelf, out);
     let _ = put_fault(&outcome, err);
     outcome
 }
 
 /// Runs the command that the words spell.
-fn run<F: Shelf, K: Sink>(alloc: Global, words: &[String], shelf: &mut F, out: &mut K) -> Outcome
+fn run<R: Threads + Sync, F: Shelf, K: Sink>(
+    rt: &R,
+    alloc: Global,
+    words: &[String],
+    shelf: &mut F,
+    out: &mut K,
+) -> Outcome
     ensures { Ran (texts words.now) (F.state shelf.old) (F.state shelf.new)
         (K.state out.old) (K.state out.new) result }
 {
     match command_of(words) {
         Err(place) => Outcome::Usage { place },
-        Ok(command) => run_command(alloc, command, shelf, out),
+        Ok(command) => run_command(rt, alloc, command, shelf, out),
     }
 }
 
-fn run_command<F: Shelf, K: Sink>(
+fn run_command<R: Threads + Sync, F: Shelf, K: Sink>(
+    rt: &R,
     alloc: Global,
     command: Command<'_>,
     shelf: &mut F,
@@ -85,5 +98,9 @@ fn run_command<F: Shelf, K: Sink>(
     match command {
         Command::Sum { file } => run_sum(alloc, file, shelf, out),
         Command::Keygen { seed, net, target } => run_keygen(alloc, &seed, net, target, shelf),
+        Command::KeygenSeeds { seed, net, target } => {
+            run_keygen_seeds(alloc, &seed, net, target, shelf)
+        }
+        Command::Migrate { keys, target } => run_migrate(rt, alloc, keys, target, shelf),
     }
 }

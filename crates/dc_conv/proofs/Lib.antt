@@ -1,2 +1,4 @@
 mod Blocks
+mod Groups
 mod Loops
+mod Pieces

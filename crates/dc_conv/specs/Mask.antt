@@ -1,6 +1,7 @@
 -- A mask, and the words that it has taken.
 use Rattle.std.specs.Prelude.{ℕ, ◌+◌, ◌-◌, ◌*◌, ◌/◌, ◌%◌, ◌^◌, ◌<◌, ◌≤◌, ◌≡◌, min, List, length, drop, sum_by, slice_index, All}
 use Rattle.std.specs.List.{range_with_len}
+use Rattle.dc_spec.specs.Limits.{most_words}
 use Rattle.dc_spec.specs.Words.{IsSymbol, AreWords}
 use Rattle.dc_key_rules.specs.PairKeys.{symbols}
 use Rattle.dc_keys.specs.StationPads.{StationPads}
@@ -23,7 +24,7 @@ block_start taken t = 32 * (min taken t / 32)
 -- pads and sums for 1 to 4096 words, at most so many words taken; each sum is a pad and that many products of two symbols at most
 pub record IsMask (m : MaskState) : Type 0 where
   pub some_words : 1 ≤ session_words m
-  pub most_words : session_words m ≤ 4096
+  pub most_words : session_words m ≤ most_words
   pub pads : length m.second ≡ 16 * session_words m
   pub symbols : All IsSymbol m.second
   pub as_many : length m.sums ≡ 16 * session_words m
@@ -34,6 +35,11 @@ pub record IsMask (m : MaskState) : Type 0 where
 -- sum n before it is reduced: first pad n and the products of the symbols before a word with second pads
 abbrev pub running_sum : StationPads → List (List ℕ) → ℕ → ℕ → ℕ
 running_sum pads history t n = slice_index pads.first n + sum_by (λ k. slice_index pads.second (n - k) * slice_index (symbols history) k) (range_with_len 0 (16 * t))
+
+-- the sum of the products of factors with as many pads, which begin at pad i
+abbrev pub products_from : List ℕ → List ℕ → ℕ → ℕ
+products_from pads factors i =
+    sum_by (λ k. slice_index pads (i + k) * slice_index factors k) (range_with_len 0 (length factors))
 
 -- the mask has these pads and has taken these words, in this order
 pub record StandsFor (m : MaskState) (pads : StationPads) (history : List (List ℕ)) : Type 0 where

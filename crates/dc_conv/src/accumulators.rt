@@ -1,9 +1,8 @@
 //! The running sums of a mask.
 
-ghost use Rattle.std.specs.Prelude.{◌≡◌, ◌+◌, ◌-◌, ◌*◌, ◌^◌, ◌<◌, ◌≤◌, ℕ, length, slice_index, sum_by, take, All, IfOk};
-ghost use Rattle.std.specs.List.{range_with_len};
+ghost use Rattle.std.specs.Prelude.{◌≡◌, ◌+◌, ◌*◌, ◌^◌, ◌<◌, ◌≤◌, ℕ, length, slice_index, All, IfOk};
 ghost use Rattle.dc_spec.specs.Words.{IsSymbol, AreWords};
-ghost use Rattle.dc_key_rules.specs.PairKeys.{symbols};
+ghost use Rattle.dc_keys.specs.StationPads.{history_sum};
 
 use crate::adding::add_words;
 use dc_field::{NoMemory, Word};
@@ -52,12 +51,19 @@ impl Accumulators {
         requires start { at ≤ length self.old }
         requires within { 16 * length words.now + length self.old ≤ length second.now + at }
         requires symbols { All IsSymbol second.now }
-        requires room { (n : ℕ) → slice_index self.old n + 68719476736 * length words.now < 2 ^ 64 }
+        requires room { (n : ℕ) →
+            slice_index self.old n + 68719476736 * length words.now < 2 ^ 64 }
         ensures words { AreWords words.now }
         ensures as_many { length self.new ≡ length self.old }
-        ensures before { (n : ℕ) → n < at → slice_index self.new n ≡ slice_index self.old n }
-        ensures added { (i : ℕ) → at + i < length self.old → slice_index self.new (at + i) ≡ slice_index self.old (at + i) + sum_by (λ k. slice_index second.now (16 * length words.now + i - k) * slice_index (symbols words.now) k) (range_with_len 0 (16 * length words.now)) }
-        ensures grown { (i : ℕ) → at + i < length self.old → slice_index self.new (at + i) ≤ slice_index self.old (at + i) + 68719476736 * length words.now }
+        ensures before { (n : ℕ) → n < at →
+            slice_index self.new n ≡ slice_index self.old n }
+        ensures added { (i : ℕ) → at + i < length self.old →
+            slice_index self.new (at + i)
+            ≡ slice_index self.old (at + i)
+            + history_sum second.now words.now (16 * length words.now + i) }
+        ensures grown { (i : ℕ) → at + i < length self.old →
+            slice_index self.new (at + i)
+            ≤ slice_index self.old (at + i) + 68719476736 * length words.now }
     {
         add_part(&mut self.items, at, second, words);
     }
@@ -68,11 +74,18 @@ fn add_part(sums: &mut [u64], at: usize, second: &[u32], words: &[Word])
     requires start { at ≤ length sums.old }
     requires within { 16 * length words.now + length sums.old ≤ length second.now + at }
     requires symbols { All IsSymbol second.now }
-    requires room { (n : ℕ) → slice_index sums.old n + 68719476736 * length words.now < 2 ^ 64 }
+    requires room { (n : ℕ) →
+        slice_index sums.old n + 68719476736 * length words.now < 2 ^ 64 }
     ensures words { AreWords words.now }
-    ensures before { (n : ℕ) → n < at → slice_index sums.new n ≡ slice_index sums.old n }
-    ensures added { (i : ℕ) → at + i < length sums.old → slice_index sums.new (at + i) ≡ slice_index sums.old (at + i) + sum_by (λ k. slice_index second.now (16 * length words.now + i - k) * slice_index (symbols words.now) k) (range_with_len 0 (16 * length words.now)) }
-    ensures grown { (i : ℕ) → at + i < length sums.old → slice_index sums.new (at + i) ≤ slice_index sums.old (at + i) + 68719476736 * length words.now }
+    ensures before { (n : ℕ) → n < at →
+        slice_index sums.new n ≡ slice_index sums.old n }
+    ensures added { (i : ℕ) → at + i < length sums.old →
+        slice_index sums.new (at + i)
+        ≡ slice_index sums.old (at + i)
+        + history_sum second.now words.now (16 * length words.now + i) }
+    ensures grown { (i : ℕ) → at + i < length sums.old →
+        slice_index sums.new (at + i)
+        ≤ slice_index sums.old (at + i) + 68719476736 * length words.now }
 {
     add_words(&mut sums[at..], second, words);
 }

@@ -57,7 +57,8 @@ few_pairs k is =
 -- three numbers, then as many pairs as the last says, each of the size that the second says
 pub keys_tell : (x y : Keys) → IsKeys x → IsKeys y → keys_bytes x ≡ keys_bytes y → x ≡ y
 keys_tell x y p q e =
-    let apart : to_be_bytes w16 x.stations ++ (to_be_bytes w16 x.words ++ (to_be_bytes w32 (length x.pairs) ++ flat_map pair_bytes x.pairs)) ≡ to_be_bytes w16 y.stations ++ (to_be_bytes w16 y.words
+    let apart : to_be_bytes w16 x.stations ++ (to_be_bytes w16 x.words ++ (to_be_bytes w32 (length x.pairs) ++ flat_map pair_bytes x.pairs))
+    ≡ to_be_bytes w16 y.stations ++ (to_be_bytes w16 y.words
     ++ (to_be_bytes w32 (length y.pairs) ++ flat_map pair_bytes y.pairs)) = cc in
     let stations : (x.stations ≡ y.stations) × (to_be_bytes w16 x.words ++ (to_be_bytes w32 (length x.pairs) ++ flat_map pair_bytes x.pairs) ≡ to_be_bytes w16 y.words
     ++ (to_be_bytes w32 (length y.pairs) ++ flat_map pair_bytes y.pairs)) = read_short x.stations y.stations _ _ (omega arith) (omega arith) apart in
@@ -89,7 +90,8 @@ few_seeds f is =
 -- three numbers, then as many pairs as the last says
 pub seeds_tell : (x y : Seeds) → IsSeeds x → IsSeeds y → seeds_bytes x ≡ seeds_bytes y → x ≡ y
 seeds_tell x y p q e =
-    let apart : to_be_bytes w16 x.stations ++ (to_be_bytes w16 x.words ++ (to_be_bytes w32 (length x.pairs) ++ flat_map seed_pair_bytes x.pairs)) ≡ to_be_bytes w16 y.stations ++ (to_be_bytes w16 y.words
+    let apart : to_be_bytes w16 x.stations ++ (to_be_bytes w16 x.words ++ (to_be_bytes w32 (length x.pairs) ++ flat_map seed_pair_bytes x.pairs))
+    ≡ to_be_bytes w16 y.stations ++ (to_be_bytes w16 y.words
     ++ (to_be_bytes w32 (length y.pairs) ++ flat_map seed_pair_bytes y.pairs)) = cc in
     let stations : (x.stations ≡ y.stations) × (to_be_bytes w16 x.words ++ (to_be_bytes w32 (length x.pairs) ++ flat_map seed_pair_bytes x.pairs) ≡ to_be_bytes w16 y.words
     ++ (to_be_bytes w32 (length y.pairs) ++ flat_map seed_pair_bytes y.pairs)) = read_short x.stations y.stations _ _ (omega arith) (omega arith) apart in

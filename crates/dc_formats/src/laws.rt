@@ -1,4 +1,5 @@
-//! Laws of the formats. These functions do nothing: each one's contract is a law that callers get by a call.
+//! Laws of the formats. These functions do nothing: each one's contract is a law that callers get by a
+//! call.
 
 ghost use Rattle.dc_formats.specs.Laws.{TextFilesTellLines, TranscriptsTellContent, KeyFilesTellContent, SeedFilesTellContent, StreamsTellContent, ScriptsTellContent, ImagesTellContent, WantedWordsTellContent, FramesTellContent, StreamsAreText, ScriptsAreText, ImagesAreText, WantedWordsAreText, TranscriptsAreShort, TranscriptsAreWithin, KeyFilesAreWithin, SeedFilesAreWithin, StreamsAreWithin, ScriptsAreWithin, ImagesAreWithin, WantedWordsAreWithin, TextFilesHaveLines, EndedLinesAreFile};
 
@@ -27,7 +28,8 @@ pub fn key_files_tell_content()
     ensures { KeyFilesTellContent }
 {}
 
-/// The bytes of a key file of seeds tell the numbers of stations and words, the pairs and their seeds.
+/// The bytes of a key file of seeds tell the numbers of stations and words, and the pairs with their
+/// seeds.
 #[tactic(auto, using(crate::proofs::BinaryLaws::seeds_tell))]
 pub fn seed_files_tell_content()
     ensures { SeedFilesTellContent }

@@ -86,7 +86,8 @@ each_read {X} f count ps given =
     let there : map f (range_with_len 0 count) ≡ map Ok ps = all_there _ ps given in
     let long : length ps ≡ count = sym (length-map ps Ok) ∙ ap length (sym there) ∙ length-map-range_with_len f 0 count in (
       long,
-      λ k d lt. sym (get_or-map-range_with_len f 0 count k k (Ok d) lt (omega arith)) ∙ ap (λ (rs : List (Result X KeyFault)). get_or rs k (Ok d)) there ∙ get_or-map Ok ps k d (Ok d) (omega arith),
+      λ k d lt. sym (get_or-map-range_with_len f 0 count k k (Ok d) lt (omega arith)) ∙ ap (λ (rs : List (Result X KeyFault)). get_or rs k (Ok d)) there
+          ∙ get_or-map Ok ps k d (Ok d) (omega arith),
     )
 
 -- the other way round

@@ -44,8 +44,14 @@ pieces_there pairs words p lt =
     let long = length-map-range_with_len (piece_of pairs words) 0 (length pairs * (2 * words)) in
     let more : (p + 1) * (2 * words) ≤ length pairs * (2 * words) = mul-le-mul_right (2 * words) (omega arith) in
     let next : (p + 1) * (2 * words) ≡ 2 * words * p + 2 * words = omega arith in
-    fill_by_all (λ j. elements_from (get_or pairs p no_seed) (16 * j)) (take (2 * words) (drop (2 * words * p) (map (piece_of pairs words) (range_with_len 0 (length pairs * (2 * words)))))) (2 * words) []
-    (omega (arith, length-take (2 * words) (drop (2 * words * p) (map (piece_of pairs words) (range_with_len 0 (length pairs * (2 * words))))), length-drop (2 * words * p) (map (piece_of pairs words) (range_with_len 0 (length pairs * (2 * words))))))
+    fill_by_all (λ j. elements_from (get_or pairs p no_seed) (16 * j)) (take (2 * words) (drop (2 * words * p) (map (piece_of pairs words) (range_with_len 0 (length pairs * (2 * words))))))
+    (2 * words) []
+    (omega (
+      arith,
+      length-take (2 * words) (drop (2 * words * p) (map (piece_of pairs words) (range_with_len 0 (length pairs * (2 * words))))),
+      length-drop (2 * words * p) (map
+          (piece_of pairs words) (range_with_len 0 (length pairs * (2 * words)))),
+    ))
     (λ j below.
     get_or-take (2 * words) (drop (2 * words * p) (map (piece_of pairs words) (range_with_len 0 (length pairs * (2 * words))))) j [] below
     ∙ get_or-drop (2 * words * p) (map (piece_of pairs words) (range_with_len 0 (length pairs * (2 * words)))) j []
@@ -91,7 +97,8 @@ pub length-second : (p : SeedPair) (words n : ℕ) (pieces back : List (List ℕ
 length-second p words n pieces back symbols are dropped same put =
     ap length (second_elements p words n pieces back symbols are dropped same put) ∙ length-map-range_with_len (λ n. element_at p.seed p.u p.v (16 * words + n)) 0 (16 * words)
 
-pub second_half : (p : SeedPair) (words n : ℕ) (pieces back : List (List ℕ)) (symbols : List ℕ) → 1 ≤ words → pieces ≡ pieces_of words p → back ≡ drop n pieces → n ≡ words → symbols ≡ flat_map (λ w. w) back
+pub second_half : (p : SeedPair) (words n : ℕ) (pieces back : List (List ℕ)) (symbols : List ℕ) → 1 ≤ words → pieces ≡ pieces_of words p → back ≡ drop n pieces → n ≡ words
+    → symbols ≡ flat_map (λ w. w) back
     → set symbols 0 0 ≡ (expanded_pair (16 * words) p).b
 second_half p words n pieces back symbols some are dropped same put =
     ap (λ (xs : List ℕ). set xs 0 0) (second_elements p words n pieces back symbols are dropped same put) ∙ first_set (λ n. element_at p.seed p.u p.v (16 * words + n)) (16 * words) (omega arith)
@@ -116,7 +123,8 @@ IsKeys-expanded_keys f is =
       some_words = is.some_words;
       most_words = is.most_words;
       most_symbols = rw count is.most_symbols;
-      are_pairs = All-map (IsPair f.stations f.words) pair f.pairs (λ i d lt. let seeded = is.are_pairs i d lt in IsPair-generated_pair _ f.stations f.words _ is.some_words (record { ends = seeded.ends; within = seeded.within }));
+      are_pairs = All-map (IsPair f.stations f.words) pair f.pairs (λ i d lt. let seeded = is.are_pairs i d lt in IsPair-generated_pair _ f.stations f.words _ is.some_words
+          (record { ends = seeded.ends; within = seeded.within }));
       rising = ends_rise (λ p. (p.u, p.v)) (map pair f.pairs) (λ i d lt.
           let here = get_or-map pair f.pairs i no_seed d (omega (arith, count)) in
           let next = get_or-map pair f.pairs (i + 1) no_seed d (omega (arith, count)) in
@@ -132,7 +140,8 @@ pub one_seed : (base : List ℕ) (g : PlainGraph) (words : ℕ) (f : Seeds) → 
 one_seed base g words f is =
     ap expanded_keys is ∙ ap (λ (ps : List Pair). record { stations = g.stations; words = words; pairs = ps }) (same_pairs base (16 * words) g.edges)
 
-pub IsSeeds-seeds_of : (base : List ℕ) (g : PlainGraph) (words : ℕ) → length base ≡ 32 → AreBytes base → IsGraph g → 1 ≤ words → words ≤ 4096 → length g.edges * (32 * words) ≤ 2 ^ 26 → IsSeeds (seeds_of base g words)
+pub IsSeeds-seeds_of : (base : List ℕ) (g : PlainGraph) (words : ℕ) → length base ≡ 32 → AreBytes base → IsGraph g → 1 ≤ words → words ≤ 4096 → length g.edges * (32 * words) ≤ 2 ^ 26
+    → IsSeeds (seeds_of base g words)
 IsSeeds-seeds_of base g words long bytes is some most fits =
     let count : length (map (seeded base) g.edges) ≡ length g.edges = length-map g.edges (seeded base) in
     record {
@@ -141,7 +150,8 @@ IsSeeds-seeds_of base g words long bytes is some most fits =
       some_words = some;
       most_words = most;
       most_symbols = rw count fits;
-      are_pairs = All-map (IsSeedPair g.stations) (seeded base) g.edges (λ i d lt. let edge = is.are_edges i d lt in record { ends = edge.ends; within = edge.within; seed_length = long; seed_bytes = bytes });
+      are_pairs = All-map (IsSeedPair g.stations) (seeded base) g.edges
+          (λ i d lt. let edge = is.are_edges i d lt in record { ends = edge.ends; within = edge.within; seed_length = long; seed_bytes = bytes });
       rising = ends_rise (λ p. (p.u, p.v)) (map (seeded base) g.edges) (λ i d lt.
           let here = get_or-map (seeded base) g.edges i (0, 0) d (omega (arith, count)) in
           let next = get_or-map (seeded base) g.edges (i + 1) (0, 0) d (omega (arith, count)) in

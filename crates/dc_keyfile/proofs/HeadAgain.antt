@@ -25,10 +25,13 @@ pub head_again : (version : ℕ) (h : Head) (rest : List ℕ) → IsHead h → h
 unfolding head_from_bytes
 head_again version h rest is few =
     let b : List ℕ = head_bytes version h.stations h.words h.count ++ rest in
-    let not_short : ltb (length (head_bytes version h.stations h.words h.count ++ rest)) 12 ≡ false = le-ltb _ _ (omega (arith, length-append (head_bytes version h.stations h.words h.count) rest)) in
+    let not_short : ltb (length (head_bytes version h.stations h.words h.count ++ rest)) 12
+    ≡ false = le-ltb _ _ (omega (arith, length-append (head_bytes version h.stations h.words h.count) rest)) in
     let one : eqb version version ≡ true = eq-eqb _ _ refl in
-    let stations : short_at (head_bytes version h.stations h.words h.count ++ rest) 4 ≡ h.stations = let most = is.most_stations in short_again (head_bytes version h.stations h.words h.count ++ rest) 4 h.stations (omega arith) refl in
-    let words : short_at (head_bytes version h.stations h.words h.count ++ rest) 6 ≡ h.words = let most = is.most_words in short_again (head_bytes version h.stations h.words h.count ++ rest) 6 h.words (omega arith) refl in
+    let stations : short_at (head_bytes version h.stations h.words h.count ++ rest) 4
+    ≡ h.stations = let most = is.most_stations in short_again (head_bytes version h.stations h.words h.count ++ rest) 4 h.stations (omega arith) refl in
+    let words : short_at (head_bytes version h.stations h.words h.count ++ rest) 6
+    ≡ h.words = let most = is.most_words in short_again (head_bytes version h.stations h.words h.count ++ rest) 6 h.words (omega arith) refl in
     let count : number_at (head_bytes version h.stations h.words h.count ++ rest) 8 ≡ h.count = number_again (head_bytes version h.stations h.words h.count ++ rest) 8 h.count few refl in
     rw (not_short, one, stations, words, count) (numbers_again h is)
 
@@ -72,7 +75,8 @@ before_again : (e f : ℕ × ℕ) → AreEndsBefore e f → is_before e f ≡ tr
 before_again e f before = is_before_again e.0 e.1 f.0 f.1 before.lesser before.greater
 
 -- where ends rise, the test of each place says so
-rising_again : {X : Type 0} (ends : X → ℕ × ℕ) (b : List ℕ) (size : ℕ) (ps : List X) → AreEndsRising (map ends ps) → ((k : ℕ) (d : X) → k < length ps → ends_of (piece_at b size k) ≡ ends (get_or ps k d))
+rising_again : {X : Type 0} (ends : X → ℕ × ℕ) (b : List ℕ) (size : ℕ) (ps : List X) → AreEndsRising (map ends ps) → ((k : ℕ) (d : X) → k < length ps
+    → ends_of (piece_at b size k) ≡ ends (get_or ps k d))
     → (i : ℕ) (d : X) → i < length ps → is_rising b size i ≡ true
 rising_again ends b size ps rising here zero d lt = refl
 rising_again ends b size ps rising here (suc i) d lt =
@@ -82,11 +86,13 @@ rising_again ends b size ps rising here (suc i) d lt =
     let rises : AreEndsBefore (ends (get_or ps i d)) (ends (get_or ps (i + 1) d)) = ends_rise_at ends ps rising i d (omega arith) in
     let one = here i d (omega arith) in
     let other = here (suc i) d lt in
-    let passes : is_before (ends_of (piece_at b size i)) (ends_of (piece_at b size (suc i))) ≡ true = (λ j. is_before (one j) (other j)) ∙ before_again _ _ (subst (λ (n : ℕ). AreEndsBefore (ends (get_or ps i d)) (ends (get_or ps n d))) next rises) in
+    let passes : is_before (ends_of (piece_at b size i)) (ends_of (piece_at b size (suc i))) ≡ true = (λ j. is_before (one j) (other j))
+    ∙ before_again _ _ (subst (λ (n : ℕ). AreEndsBefore (ends (get_or ps i d)) (ends (get_or ps n d))) next rises) in
     rw (not_first, before) passes
 
 -- ends that rise and are stations have no fault
-pub ends_again : {X : Type 0} (ends : X → ℕ × ℕ) (b : List ℕ) (stations size : ℕ) (ps : List X) → AreEndsRising (map ends ps) → ((k : ℕ) (d : X) → k < length ps → ends_of (piece_at b size k) ≡ ends (get_or ps k d))
+pub ends_again : {X : Type 0} (ends : X → ℕ × ℕ) (b : List ℕ) (stations size : ℕ) (ps : List X) → AreEndsRising (map ends ps) → ((k : ℕ) (d : X) → k < length ps
+    → ends_of (piece_at b size k) ≡ ends (get_or ps k d))
     → (i : ℕ) (d : X) → i < length ps → (ends (get_or ps i d)).0 < (ends (get_or ps i d)).1 → (ends (get_or ps i d)).1 < stations → ends_fault b stations size i ≡ None
 unfolding ends_fault
 ends_again ends b stations size ps rising here i d lt less below =

@@ -25,13 +25,16 @@ use Rattle.dc_keyfile.proofs.ReaderTests.{passed, limits}
 pub four : (a b c d w x y z : List ℕ) → a ≡ w → b ≡ x → c ≡ y → d ≡ z → a ++ b ++ c ++ d ≡ w ++ (x ++ (y ++ z))
 four a b c d w x y z p q r s = rw (p, q, r, s) (append_assoc (w ++ x) y z ∙ append_assoc w x (y ++ z))
 
-head_spelled : (version : ℕ) (b : List ℕ) → IsBytes b → 12 ≤ length b → codes "DCK" ≡ take 3 b → get_or b 3 0 ≡ version → head_bytes version (short_at b 4) (short_at b 6) (number_at b 8) ≡ take 12 b
+head_spelled : (version : ℕ) (b : List ℕ) → IsBytes b → 12 ≤ length b → codes "DCK" ≡ take 3 b → get_or b 3 0 ≡ version
+    → head_bytes version (short_at b 4) (short_at b 6) (number_at b 8) ≡ take 12 b
 head_spelled version b fits long magic is =
-    let front : codes "DCK" ++ version ∷ [] ≡ take 4 b = sym (take_more b 3 0 (omega arith) ∙ ap (λ (xs : List ℕ). xs ++ get_or b 3 0 ∷ []) (sym magic) ∙ ap (λ (n : ℕ). codes "DCK" ++ n ∷ []) is) in
+    let front : codes "DCK" ++ version ∷ [] ≡ take 4 b = sym (take_more b 3 0 (omega arith) ∙ ap (λ (xs : List ℕ). xs ++ get_or b 3 0 ∷ []) (sym magic)
+    ∙ ap (λ (n : ℕ). codes "DCK" ++ n ∷ []) is) in
     let parts : take 12 b ≡ take 4 b ++ (take 2 (drop 4 b) ++ (take 2 (drop 6 b) ++ take 4 (drop 8 b)))
     = take-add 4 8 b ∙ ap (λ (xs : List ℕ). take 4 b ++ xs) (take-add 2 6 (drop 4 b)
     ∙ ap (λ (xs : List ℕ). take 2 (drop 4 b) ++ xs) (ap (take 6) (drop-drop 2 4 b) ∙ take-add 2 4 (drop 6 b) ∙ ap (λ (xs : List ℕ). take 2 (drop 6 b) ++ take 4 xs) (drop-drop 2 6 b))) in
-    four (codes "DCK" ++ version ∷ []) (to_be_bytes w16 (short_at b 4)) (to_be_bytes w16 (short_at b 6)) (to_be_bytes w32 (number_at b 8)) (take 4 b) (take 2 (drop 4 b)) (take 2 (drop 6 b)) (take 4 (drop 8 b))
+    four (codes "DCK" ++ version ∷ []) (to_be_bytes w16 (short_at b 4)) (to_be_bytes w16 (short_at b 6)) (to_be_bytes w32 (number_at b 8)) (take 4 b) (take 2 (drop 4 b)) (take 2 (drop 6 b))
+    (take 4 (drop 8 b))
     front (short_spelled b 4 fits (omega arith)) (short_spelled b 6 fits (omega arith)) (number_spelled b 8 fits (omega arith)) ∙ sym parts
 
 abbrev the_head : ℕ → ℕ → ℕ → Head
@@ -72,7 +75,8 @@ ended_well b size count (Err fault) ps e = absurd cc
 ended_well b size count (Ok pairs) ps e = let end = passed (ltb (due_length size count) (length b)) _ _ ps e in (ltb-false _ _ end.0, end.1)
 
 -- pairs that were read, and no more bytes
-pub body_found : {X : Type 0} (b : List ℕ) (size count : ℕ) (f : ℕ → Result X KeyFault) (ps : List X) → body_of b size count f ≡ Ok ps → (length b ≡ due_length size count) × (pairs_of f count ≡ Ok ps)
+pub body_found : {X : Type 0} (b : List ℕ) (size count : ℕ) (f : ℕ → Result X KeyFault) (ps : List X) → body_of b size count f ≡ Ok ps
+    → (length b ≡ due_length size count) × (pairs_of f count ≡ Ok ps)
 unfolding body_of
 body_found b size count f ps e =
     let whole = passed (ltb (length b) (due_length size count)) _ _ ps e in

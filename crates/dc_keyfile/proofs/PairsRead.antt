@@ -66,7 +66,8 @@ with_first_well piece words p (Ok a) pair first given =
     let parts = with_second_well (ends_of piece) p a (pads_of piece p (16 * words) (16 * words)) pair given in
     let first' = pads_found piece p 0 (16 * words) a first in
     let second' = pads_found piece p (16 * words) (16 * words) parts.0 parts.1 in
-    let made : IsPadded piece words (the_pair (ends_of piece) a parts.0) = record { lesser = refl; greater = refl; first = first'.0; second = second'.0; first_symbols = first'.1; second_symbols = second'.1; no_first = parts.2 } in
+    let made : IsPadded piece words (the_pair
+    (ends_of piece) a parts.0) = record { lesser = refl; greater = refl; first = first'.0; second = second'.0; first_symbols = first'.1; second_symbols = second'.1; no_first = parts.2 } in
     subst (IsPadded piece words) parts.3 made
 
 pub padded_well : (piece : List ℕ) (words p : ℕ) (pair : Pair) → padded piece words p ≡ Ok pair → IsPadded piece words pair

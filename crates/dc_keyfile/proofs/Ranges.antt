@@ -14,7 +14,8 @@ range_append f zero n a =
 range_append {X} f (suc m) n a =
     let next : a + 1 + m ≡ a + suc m = omega arith in
     let peel : suc m + n ≡ suc (m + n) = omega arith in
-    ap (λ (k : ℕ). map f (range_with_len a k)) peel ∙ ap (λ (xs : List X). f a ∷ xs) (range_append f m n (a + 1) ∙ ap (λ (k : ℕ). map f (range_with_len (a + 1) m) ++ map f (range_with_len k n)) next)
+    ap (λ (k : ℕ). map f (range_with_len a k)) peel ∙ ap (λ (xs : List X). f a ∷ xs) (range_append f m n (a + 1)
+    ∙ ap (λ (k : ℕ). map f (range_with_len (a + 1) m) ++ map f (range_with_len k n)) next)
 
 -- places counted from another one
 pub shifted : {X : Type 0} (f : ℕ → X) (b n a : ℕ) → map (λ k. f (b + k)) (range_with_len a n) ≡ map f (range_with_len (b + a) n)

@@ -63,7 +63,8 @@ padded_again stations words place p most is =
     let first = first_again p (16 * words) is.first_pads is.second_pads is.first_symbols is.second_symbols in
     let second = second_again p (16 * words) is.first_pads is.second_pads is.first_symbols is.second_symbols in
     let read : pads_of (pair_bytes p) place 0 (16 * words) ≡ Ok p.a = pads_are_read (pair_bytes p) place 0 (16 * words) (All-same IsSymbol _ _ first is.first_symbols) ∙ ap Ok first in
-    let read' : pads_of (pair_bytes p) place (16 * words) (16 * words) ≡ Ok p.b = pads_are_read (pair_bytes p) place (16 * words) (16 * words) (All-same IsSymbol _ _ second is.second_symbols) ∙ ap Ok second in
+    let read' : pads_of (pair_bytes p) place (16 * words) (16 * words) ≡ Ok p.b = pads_are_read (pair_bytes p) place (16 * words) (16 * words) (All-same IsSymbol _ _ second is.second_symbols)
+    ∙ ap Ok second in
     let none : eqb (get_or p.b 0 0) 0 ≡ true = eq-eqb _ _ is.no_first in
     let lesser = lesser_again stations words p most is in
     let greater = greater_again stations words p most is in
@@ -98,13 +99,15 @@ pairs_again : (k : Keys) → IsKeys k → pairs_of (pair_of (keys_bytes k) k.sta
 pairs_again k is =
     each_again (pair_of (keys_bytes k) k.stations k.words) k.pairs (λ i d lt.
     let pair = is.are_pairs i d lt in
-    pair_again (keys_bytes k) k.stations k.words i (get_or k.pairs i d) is.most_stations pair (piece_again pair_bytes (head_bytes 1 k.stations k.words (length k.pairs)) (pair_size k.words) k.pairs refl (wide k is) i d lt)
+    pair_again (keys_bytes k) k.stations k.words i (get_or k.pairs i d) is.most_stations pair (piece_again pair_bytes (head_bytes 1 k.stations k.words (length k.pairs))
+    (pair_size k.words) k.pairs refl (wide k is) i d lt)
     (ends_again ends (keys_bytes k) k.stations (pair_size k.words) k.pairs is.rising (ends_there k is) i d lt pair.ends pair.within))
 
 after_again : (k : Keys) → IsKeys k → keys_after_head (keys_bytes k) (record { stations = k.stations; words = k.words; count = length k.pairs }) ≡ Ok k
 unfolding keys_after_head
 after_again k is =
-    rw (body_again (keys_bytes k) (pair_size k.words) (pair_of (keys_bytes k) k.stations k.words) k.pairs (whole_again pair_bytes (head_bytes 1 k.stations k.words (length k.pairs)) (pair_size k.words) k.pairs refl (wide k is)) (pairs_again k is)) refl
+    rw (body_again (keys_bytes k) (pair_size k.words) (pair_of (keys_bytes k) k.stations k.words) k.pairs (whole_again pair_bytes (head_bytes 1 k.stations k.words (length k.pairs))
+    (pair_size k.words) k.pairs refl (wide k is)) (pairs_again k is)) refl
 
 -- what is spelled so is read
 pub pads_again : (k : Keys) → IsKeys k → pads_from_bytes (keys_bytes k) ≡ Ok k
@@ -113,7 +116,8 @@ pads_again k is =
     let h : Head = record { stations = k.stations; words = k.words; count = length k.pairs } in
     let is_head : IsHead (record { stations = k.stations; words = k.words; count = length k.pairs })
     = record { some_stations = is.some_stations; most_stations = is.most_stations; some_words = is.some_words; most_words = is.most_words; most_symbols = is.most_symbols } in
-    ap (after_head (keys_after_head (keys_bytes k))) (head_again 1 (record { stations = k.stations; words = k.words; count = length k.pairs }) (flat_map pair_bytes k.pairs) is_head (few_pairs k is)) ∙ after_again k is
+    ap (after_head (keys_after_head (keys_bytes k))) (head_again 1 (record { stations = k.stations; words = k.words; count = length k.pairs }) (flat_map pair_bytes k.pairs) is_head
+    (few_pairs k is)) ∙ after_again k is
 
 and_no : (b : Bool) → (b && false) ≡ false
 and_no true = refl

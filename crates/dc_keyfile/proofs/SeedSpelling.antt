@@ -79,7 +79,8 @@ IsSeeds-from_pairs b h ps fits is whole long each = record {
       (λ k lt. (each k (record { u = 0; v = 0; seed = [] }) lt).ends.rising);
 }
 
-pub IsSeeds-from_body : (b : List ℕ) (h : Head) (ps : List SeedPair) → IsBytes b → IsHead h → body_of b 36 h.count (seed_pair_of b h.stations) ≡ Ok ps → IsSeeds (record { stations = h.stations; words = h.words; pairs = ps })
+pub IsSeeds-from_body : (b : List ℕ) (h : Head) (ps : List SeedPair) → IsBytes b → IsHead h → body_of b 36 h.count (seed_pair_of b h.stations) ≡ Ok ps
+    → IsSeeds (record { stations = h.stations; words = h.words; pairs = ps })
 IsSeeds-from_body b h ps fits is read =
     let body = body_found b 36 h.count (seed_pair_of b h.stations) ps read in
     let each = each_read (seed_pair_of b h.stations) h.count ps body.1 in
@@ -152,4 +153,5 @@ unfolding seeds_from_bytes
 seeds_again s is =
     let is_head : IsHead (record { stations = s.stations; words = s.words; count = length s.pairs })
     = record { some_stations = is.some_stations; most_stations = is.most_stations; some_words = is.some_words; most_words = is.most_words; most_symbols = is.most_symbols } in
-    ap (after_head (seeds_after_head (seeds_bytes s))) (head_again 2 (record { stations = s.stations; words = s.words; count = length s.pairs }) (flat_map seed_pair_bytes s.pairs) is_head (few_seeds s is)) ∙ after_again s is
+    ap (after_head (seeds_after_head (seeds_bytes s))) (head_again 2 (record { stations = s.stations; words = s.words; count = length s.pairs }) (flat_map seed_pair_bytes s.pairs) is_head
+    (few_seeds s is)) ∙ after_again s is

@@ -41,7 +41,8 @@ parts_of : (piece : List ℕ) (count : ℕ) → length piece ≡ 4 + 8 * count
     → take 2 (drop 0 piece) ++ (take 2 (drop 2 piece) ++ (take (4 * count) (drop (4 + 4 * 0) piece) ++ take (4 * count) (drop (4 + 4 * count) piece))) ≡ piece
 parts_of piece count long =
     let pads : take (4 * count) (drop 4 piece) ++ take (4 * count) (drop (4 + 4 * count) piece) ≡ drop 4 piece
-    = ap (λ (xs : List ℕ). take (4 * count) (drop 4 piece) ++ take (4 * count) xs) (sym (drop-drop (4 * count) 4 piece)) ∙ sym (take-add (4 * count) (4 * count) (drop 4 piece)) ∙ take_all (4 * count + 4 * count) (drop 4 piece) (omega (arith, length-drop 4 piece)) in
+    = ap (λ (xs : List ℕ). take (4 * count) (drop 4 piece) ++ take (4 * count) xs) (sym (drop-drop (4 * count) 4 piece)) ∙ sym (take-add (4 * count) (4 * count) (drop 4 piece))
+    ∙ take_all (4 * count + 4 * count) (drop 4 piece) (omega (arith, length-drop 4 piece)) in
     let after : take 2 (drop 2 piece) ++ drop 4 piece ≡ drop 2 piece = ap (λ (xs : List ℕ). take 2 (drop 2 piece) ++ xs) (sym (drop-drop 2 2 piece)) ∙ take-append-drop 2 (drop 2 piece) in
     ap (λ (xs : List ℕ). take 2 piece ++ (take 2 (drop 2 piece) ++ xs)) pads ∙ ap (λ (xs : List ℕ). take 2 piece ++ xs) after ∙ take-append-drop 2 piece
 
@@ -71,7 +72,8 @@ body_read b h k fits is front e =
     let body = body_found b (pair_size h.words) h.count (pair_of b h.stations h.words) k.pairs made.0 in
     let each = each_found b h.stations h.words h.count k.pairs body.1 in
     let spelled : flat_map pair_bytes k.pairs ≡ drop 12 b = pairs_spelled pair_bytes b (pair_size h.words) h.count k.pairs body.0 each.0 (λ i d lt.
-    pair_spelled (piece_at b (pair_size h.words) i) h.words (get_or k.pairs i d) (IsBytes-piece (pair_size h.words) (due_length (pair_size h.words) i) b fits) (length_of_piece b (pair_size h.words) h.count i body.0 lt) (each.1 i d lt).made) in
+    pair_spelled (piece_at b (pair_size h.words) i) h.words (get_or k.pairs i d) (IsBytes-piece (pair_size h.words) (due_length (pair_size h.words) i) b fits) (length_of_piece b
+    (pair_size h.words) h.count i body.0 lt) (each.1 i d lt).made) in
     let the_keys : Keys = record { stations = h.stations; words = h.words; pairs = k.pairs } in
     let same : the_keys ≡ k = λ i. record { stations = made.1 i; words = made.2 i; pairs = k.pairs } in
     let head : head_bytes 1 k.stations k.words (length k.pairs) ≡ take 12 b = rw (← made.1, ← made.2, each.0) front in

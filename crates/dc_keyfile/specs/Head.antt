@@ -35,14 +35,16 @@ head_from_bytes version bytes =
     else head_of (short_at bytes 4) (short_at bytes 6) (number_at bytes 8)
 
 -- what is read after the head
-abbrev pub after_head : {X : Type 0} → (Head → Result X KeyFault) → Result Head KeyFault → Result X KeyFault
+abbrev pub after_head : {X : Type 0} → (Head → Result X KeyFault) → Result Head KeyFault
+    → Result X KeyFault
 after_head read (Err fault) = Err fault
 after_head read (Ok head) = read head
 
 -- the twelve bytes of a head of this version
 abbrev pub head_bytes : ℕ → ℕ → ℕ → ℕ → List ℕ
 head_bytes version stations words count =
-    codes "DCK" ++ version ∷ [] ++ to_be_bytes w16 stations ++ to_be_bytes w16 words ++ to_be_bytes w32 count
+    codes "DCK" ++ version ∷ []
+    ++ to_be_bytes w16 stations ++ to_be_bytes w16 words ++ to_be_bytes w32 count
 
 -- ---- pairs of so many bytes each
 
@@ -62,13 +64,16 @@ ends_of piece = (short_at piece 0, short_at piece 2)
 abbrev pub are_ends : ℕ → ℕ × ℕ → Bool
 are_ends stations e = nat_lt e.0 e.1 && nat_lt e.1 stations
 
--- whether ends are less than others: by the smaller end, and where these are equal by the greater end
+-- whether ends are less than others: by the smaller end, and where these are equal by the greater
+-- end
 abbrev pub is_before : ℕ × ℕ → ℕ × ℕ → Bool
 is_before e f = nat_lt e.0 f.0 || (e.0 == f.0 && nat_lt e.1 f.1)
 
 -- whether a pair is the first one or greater than the one before it
 abbrev pub is_rising : List ℕ → ℕ → ℕ → Bool
-is_rising bytes size p = p == 0 || is_before (ends_of (piece_at bytes size (p - 1))) (ends_of (piece_at bytes size p))
+is_rising bytes size p =
+    p == 0
+    || is_before (ends_of (piece_at bytes size (p - 1))) (ends_of (piece_at bytes size p))
 
 -- the fault of the ends of the pair at a place: they are tested, then whether the pairs rise
 unfoldable pub ends_fault : List ℕ → ℕ → ℕ → ℕ → Option KeyFault
@@ -98,14 +103,17 @@ unfoldable pub pairs_of : {X : Type 0} → (ℕ → Result X KeyFault) → ℕ �
 pairs_of pair count = all_or_first (map pair (range_with_len 0 count))
 
 -- the pairs, where no byte comes after them
-abbrev pub ended : {X : Type 0} → List ℕ → ℕ → ℕ → Result (List X) KeyFault → Result (List X) KeyFault
+abbrev pub ended : {X : Type 0} → List ℕ → ℕ → ℕ → Result (List X) KeyFault
+    → Result (List X) KeyFault
 ended bytes size count (Err fault) = Err fault
 ended bytes size count (Ok pairs) =
     if nat_lt (due_length size count) (length bytes) then Err (Rest (due_length size count))
     else Ok pairs
 
 -- the length is tested, then the pairs, then the end
-unfoldable pub body_of : {X : Type 0} → List ℕ → ℕ → ℕ → (ℕ → Result X KeyFault) → Result (List X) KeyFault
+unfoldable pub body_of : {X : Type 0} → List ℕ → ℕ → ℕ → (ℕ → Result X KeyFault)
+    → Result (List X) KeyFault
 body_of bytes size count pair =
-    if nat_lt (length bytes) (due_length size count) then Err (Truncated (length bytes) (due_length size count))
+    if nat_lt (length bytes) (due_length size count)
+    then Err (Truncated (length bytes) (due_length size count))
     else ended bytes size count (pairs_of pair count)

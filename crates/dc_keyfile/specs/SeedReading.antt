@@ -11,16 +11,19 @@ seed_pair_in piece = record { u = (ends_of piece).0; v = (ends_of piece).1; seed
 
 -- the pair at a place, where its ends are in order
 unfoldable pub seed_pair_of : List ℕ → ℕ → ℕ → Result SeedPair KeyFault
-seed_pair_of bytes stations p = unless (ends_fault bytes stations 36 p) (Ok (seed_pair_in (piece_at bytes 36 p)))
+seed_pair_of bytes stations p =
+    unless (ends_fault bytes stations 36 p) (Ok (seed_pair_in (piece_at bytes 36 p)))
 
 -- the pairs with the numbers of the head
 abbrev pub with_seeds : Head → Result (List SeedPair) KeyFault → Result Seeds KeyFault
 with_seeds head (Err fault) = Err fault
-with_seeds head (Ok pairs) = Ok (record { stations = head.stations; words = head.words; pairs = pairs })
+with_seeds head (Ok pairs) =
+    Ok (record { stations = head.stations; words = head.words; pairs = pairs })
 
 -- what comes after the head
 unfoldable pub seeds_after_head : List ℕ → Head → Result Seeds KeyFault
-seeds_after_head bytes head = with_seeds head (body_of bytes 36 head.count (seed_pair_of bytes head.stations))
+seeds_after_head bytes head =
+    with_seeds head (body_of bytes 36 head.count (seed_pair_of bytes head.stations))
 
 -- the seeds that bytes of version 2 spell, or their first fault
 unfoldable pub seeds_from_bytes : List ℕ → Result Seeds KeyFault

@@ -46,7 +46,8 @@ fn all_pieces<R: Threads + Sync>(
     requires some_words { 1 ≤ words }
     requires most_words { words ≤ most_words }
     requires most_symbols { length pairs.now * (32 * words) ≤ most_pads }
-    ensures { IfOk result (λ v. v.items ≡ map (piece_of pairs.now words) (range_with_len 0 (length pairs.now * (2 * words)))) }
+    ensures { IfOk result (λ v. v.items ≡
+        map (piece_of pairs.now words) (range_with_len 0 (length pairs.now * (2 * words)))) }
 {
     let count = pairs.len() * (2 * usize::from(words));
     let pieces = (0..count)
@@ -85,7 +86,9 @@ fn elements(pair: &SeedPair, e: u32) -> [u32; 16]
 fn sixteen_symbols(stream: &mut ChaCha20Rng) -> [u32; 16]
     requires first_stream { stream.old.stream ≡ 0 }
     requires room { stream.old.word_pos + 32 < 2 ^ 64 }
-    ensures { result ≡ map (λ n. generated_symbol stream.old.key (stream.old.word_pos + 2 * n)) (range_with_len 0 16) }
+    ensures { result ≡
+        map (λ n. generated_symbol stream.old.key (stream.old.word_pos + 2 * n))
+        (range_with_len 0 16) }
 {
     let mut symbols = [0; 16];
     for n in 0..16 {
@@ -103,7 +106,8 @@ fn expanded_pairs(
 ) -> Result<Pairs, NoMemory>
     requires some_words { 1 ≤ words }
     requires most_words { words ≤ most_words }
-    requires pieces { pieces.now ≡ map (piece_of seeded.now words) (range_with_len 0 (length seeded.now * (2 * words))) }
+    requires pieces { pieces.now ≡
+        map (piece_of seeded.now words) (range_with_len 0 (length seeded.now * (2 * words))) }
     ensures { IfOk result (λ ps. ps ≡ map (expanded_pair (16 * words)) seeded.now) }
 {
     let mut pairs = Vec::with_capacity(alloc, seeded.len())?;

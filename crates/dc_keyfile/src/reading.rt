@@ -38,7 +38,8 @@ pub fn read_keys<R: Threads + Sync>(
     // The spelling of all keys within the limits is read as those keys.
     ensures only { (k : Keys) → IsKeys k → b.now ≡ keys_bytes k → Answers result (Ok k) }
     // The spelling of all seeds within the limits is read as their expansion.
-    ensures seeds { (s : Seeds) → IsSeeds s → b.now ≡ seeds_bytes s → Answers result (Ok (expanded_keys s)) }
+    ensures seeds { (s : Seeds) → IsSeeds s → b.now ≡ seeds_bytes s
+        → Answers result (Ok (expanded_keys s)) }
 {
     read_either(rt, alloc, b)
 }
@@ -86,7 +87,8 @@ fn read_after_head(alloc: Global, b: &[u8], head: Head) -> Result<KeyFile, Refus
 #[tactic(auto, unfolding(crate::specs::Head::body_of))]
 fn read_body(alloc: Global, b: &[u8], head: Head) -> Result<Pairs, Refusal<KeyFault>>
     requires { IsHead head }
-    ensures { Answers result (body_of b.now (pair_size head.words) head.count (pair_of b.now head.stations head.words)) }
+    ensures { Answers result
+        (body_of b.now (pair_size head.words) head.count (pair_of b.now head.stations head.words)) }
 {
     let count = head.count as usize;
     let due = 12 + (4 + 128 * usize::from(head.words)) * count;

@@ -48,7 +48,8 @@ fn put_head(
     words: u16,
     count: u32,
 ) -> Result<(), NoMemory>
-    ensures { OnOk result (bytes.new.items ≡ bytes.old.items ++ head_bytes version stations words count) }
+    ensures { OnOk result (bytes.new.items ≡
+        bytes.old.items ++ head_bytes version stations words count) }
 {
     bytes.extend_from_slice(b"DCK")?;
     bytes.push(version)?;
@@ -90,7 +91,8 @@ fn put_pads(bytes: &mut Vec<u8>, pads: &[u32]) -> Result<(), NoMemory>
 
 /// Puts pairs with their seeds one after another.
 fn put_seed_pairs(bytes: &mut Vec<u8>, pairs: &[SeedPair]) -> Result<(), NoMemory>
-    ensures { OnOk result (bytes.new.items ≡ bytes.old.items ++ flat_map seed_pair_bytes pairs.now) }
+    ensures { OnOk result (bytes.new.items ≡
+        bytes.old.items ++ flat_map seed_pair_bytes pairs.now) }
 {
     for pair in pairs {
         put_seed_pair(bytes, pair)?;

@@ -7,6 +7,7 @@ use Rattle.std.proofs.lemmas.List.Concat.{flat_map-append}
 use Rattle.std.proofs.lemmas.List.Elements.{All-head, All-tail, All-take}
 use Rattle.dc_spec.specs.Words.{IsWord, AreWords}
 use Rattle.dc_key_rules.specs.PairKeys.{symbols}
+use Rattle.dc_keys.specs.StationPads.{history_sum}
 use Rattle.dc_keys.proofs.KeySums.{sum_to-add, sum_to-same}
 
 -- sixteen symbols for each word
@@ -46,3 +47,19 @@ pub sum-front : (b : List ℕ) (h more : List (List ℕ)) (m n : ℕ) → AreWor
     → sum_by (λ k. get_or b (n - k) 0 * get_or (symbols h) k 0) (range_with_len 0 (16 * m)) ≡ sum_by (λ k. get_or b (n - k) 0 * get_or (symbols (h ++ more)) k 0) (range_with_len 0 (16 * m))
 sum-front b h more m n are le =
     sum_to-same (λ k. get_or b (n - k) 0 * get_or (symbols h) k 0) (λ k. get_or b (n - k) 0 * get_or (symbols (h ++ more)) k 0) (16 * m) (λ k lt. rw (symbol-front h more k are (omega arith)) refl)
+
+-- the same of a front and a rest that are joined
+pub history_sum-split : (b : List ℕ) (front rest : List (List ℕ)) (n : ℕ) → AreWords front → history_sum b (front ++ rest) n ≡ history_sum b front n + history_sum b rest (n - 16 * length front)
+history_sum-split b front rest n are =
+    let f : ℕ → ℕ = λ k. get_or b (n - k) 0 * get_or (symbols (front ++ rest)) k 0 in
+    let g : ℕ → ℕ = λ k. get_or b (n - 16 * length front - k) 0 * get_or (symbols rest) k 0 in
+    let long = length-append front rest in
+    let places : 16 * length (front ++ rest) ≡ 16 * length front + 16 * length rest = omega arith in
+    let whole : symbols (front ++ rest) ≡ symbols front ++ symbols rest = flat_map-append (λ (w : List ℕ). w) front rest in
+    let same : (k : ℕ) → k < 16 * length rest → f (16 * length front + k) ≡ g k = λ k lt.
+    let at : n - (16 * length front + k) ≡ n - 16 * length front - k = omega arith in
+    let symbol : get_or (symbols (front ++ rest)) (16 * length front + k) 0 ≡ get_or (symbols rest) k 0 =
+    ap (λ (xs : List ℕ). get_or xs (16 * length front + k) 0) whole ∙ ap (λ (i : ℕ). get_or (symbols front ++ symbols rest) (i + k) 0) (sym (length-symbols front are)) ∙ get_or-append-add (symbols front) (symbols rest) k 0 in
+    rw (at, symbol) refl in
+    let before = sum-front b front rest (length front) n are (omega arith) in
+    rw places (omega (arith, sum_to-add f (16 * length front) (16 * length rest), sum_to-same (λ k. f (16 * length front + k)) g (16 * length rest) same, before))

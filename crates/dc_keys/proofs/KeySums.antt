@@ -37,6 +37,20 @@ sum_to-same f g (suc n) same =
     let here = same n (omega arith) in
     subst P (add-one n) (omega (arith, so_far, here, sum_to-more f n, sum_to-more g n))
 
+-- the same places from the last to the first
+pub sum_to-turned : (f : ℕ → ℕ) (n : ℕ) → sum_by (λ k. f (n - 1 - k)) (range_with_len 0 n) ≡ sum_by f (range_with_len 0 n)
+sum_to-turned f zero = refl
+sum_to-turned f (suc n) =
+    let P : ℕ → Type 0 = λ m. sum_by (λ k. f (m - 1 - k)) (range_with_len 0 m) ≡ sum_by f (range_with_len 0 m) in
+    let ends : 1 + n ≡ n + 1 = omega arith in
+    let g : ℕ → ℕ = λ k. f (n + 1 - 1 - k) in
+    let first : g 0 ≡ f n = ap f (omega arith) in
+    let later = sum_to-same (λ k. g (1 + k)) (λ k. f (n - 1 - k)) n (λ k lt. ap f (omega arith)) in
+    let apart : sum_by g (range_with_len 0 (n + 1)) ≡ sum_by g (range_with_len 0 1) + sum_by (λ k. g (1 + k)) (range_with_len 0 n) = rw ends at (sum_to-add g 1 n) in
+    let one : sum_by g (range_with_len 0 1) ≡ g 0 = omega arith in
+    let at : P (n + 1) = omega (arith, apart, one, first, later, sum_to-turned f n, sum_to-more f n) in
+    subst P (add-one n) at
+
 -- the product of two symbols
 pub product_small : (x y : ℕ) → x ≤ 65536 → y ≤ 65536 → x * y ≤ 4294967296
 product_small x y h k = grind arith
@@ -67,7 +81,7 @@ pub sixteen_more : (received : List (List ℕ)) (w : List ℕ) (t : ℕ) → t <
 sixteen_more received w t lt is wide so_far = rw (symbols_more received w t lt is) (omega (arith, length-append (symbols (take t received)) w))
 
 -- symbol j of word t
-symbol_of_word : (received : List (List ℕ)) (w : List ℕ) (t j : ℕ) → t < length received → w ≡ get_or received t w → j < length w → length (symbols (take t received)) ≡ 16 * t
+pub symbol_of_word : (received : List (List ℕ)) (w : List ℕ) (t j : ℕ) → t < length received → w ≡ get_or received t w → j < length w → length (symbols (take t received)) ≡ 16 * t
     → get_or (symbols received) (16 * t + j) 0 ≡ get_or w j 0
 symbol_of_word received w t j lt is within so_far =
     let short : j < length (get_or received t w) = rw (← is) within in

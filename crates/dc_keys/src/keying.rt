@@ -2,6 +2,7 @@
 
 ghost use Rattle.std.specs.Prelude.{◌≡◌, ◌+◌, ◌-◌, ◌*◌, ◌<◌, ◌≤◌, ℕ, length, slice_index, sum_by, All, take, drop};
 ghost use Rattle.std.specs.List.{range_with_len};
+ghost use Rattle.dc_spec.specs.Limits.{most_words};
 ghost use Rattle.dc_spec.specs.Words.{IsSymbol};
 ghost use Rattle.dc_key_rules.specs.PairKeys.{symbols, key_word as key_word_of};
 
@@ -33,7 +34,7 @@ fn key_totals(first: &[u32], second: &[u32], received: &[Word]) -> [u64; 16]
     requires sixteen { length first.now ≡ 16 }
     requires first_symbols { All IsSymbol first.now }
     requires second_symbols { All IsSymbol second.now }
-    requires history { length received.now ≤ 4096 }
+    requires history { length received.now ≤ most_words }
     requires within { 16 * length received.now + 16 ≤ length second.now }
     ensures sixteen_each { length (symbols received.now) ≡ 16 * length received.now }
     ensures sums { (l : ℕ) → l < 16 → slice_index result l ≡ slice_index first.now l + sum_by (λ k. slice_index second.now (16 * length received.now + l - k) * slice_index (symbols received.now) k) (range_with_len 0 (16 * length received.now)) }

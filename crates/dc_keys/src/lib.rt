@@ -11,4 +11,4 @@ pub use adding::reduced;
 pub use key_file::KeyFile;
 pub use keying::key_word;
 pub use pair_key::{PairKey, Pairs};
-pub use summed_pads::{SummedPads, summed_pads_law};
+pub use summed_pads::{SummedPads, key_sums_split, summed_pads_law};

@@ -1,9 +1,10 @@
 //! The pads of one station, summed over its pairs.
 
 ghost use Rattle.std.specs.Prelude.{◌≡◌, ◌+◌, ◌-◌, ◌*◌, ◌%◌, ◌≤◌, ◌<◌, ℕ, length, slice_index, if◌then◌else◌, IfOk, All};
+ghost use Rattle.dc_spec.specs.Limits.{most_words};
 ghost use Rattle.dc_spec.specs.Words.{IsSymbol};
 ghost use Rattle.dc_keys.specs.Pads.{IsPadded};
-ghost use Rattle.dc_keys.specs.StationPads.{pad_words, signed_pad, station_pads, KeysOfSummedPads};
+ghost use Rattle.dc_keys.specs.StationPads.{pad_words, signed_pad, station_pads, KeysOfSummedPads, KeysOfSums, KeySumsSplit};
 
 use crate::adding::{add_pads, subtract_pads};
 use crate::key_file::KeyFile;
@@ -52,7 +53,7 @@ impl SummedPads {
     pub fn words(&self) -> u16
         ensures value { result ≡ pad_words self.now }
         ensures some { 1 ≤ result }
-        ensures most { result ≤ 4096 }
+        ensures most { result ≤ most_words }
     {
         (self.first.as_slice().len() / 16) as u16
     }
@@ -93,4 +94,11 @@ fn add_signed(sums: &mut [u32], pads: &[u32], adds: bool, subtracts: bool)
 /// The law of summed pads: they give the signed sum of the pairs' keys.
 pub fn summed_pads_law()
     ensures { KeysOfSummedPads }
+{}
+
+/// The law of sums: each symbol of a station's key is a first pad plus a sum over the history, and
+/// the sum over a history is that over its front plus that over its rest.
+pub fn key_sums_split()
+    ensures keys { KeysOfSums }
+    ensures split { KeySumsSplit }
 {}

@@ -15,7 +15,7 @@ some_first : {A B X : Type 0} (g : A → B) (f : X → Option A) (x : X) (xs : L
 some_first g f x xs y e = some_of g (f x) (map f xs) y e
 
 -- along numbers: what is left begins with the next number
-numbers_left : (i n : ℕ) → i < n → range_with_len i (n - i) ≡ i ∷ range_with_len (i + 1) (n - (i + 1))
+pub numbers_left : (i n : ℕ) → i < n → range_with_len i (n - i) ≡ i ∷ range_with_len (i + 1) (n - (i + 1))
 numbers_left i n lt = let e : n - i ≡ suc (n - (i + 1)) = omega arith in rw e refl
 
 -- the answer is that of this number

@@ -1,10 +1,10 @@
 -- The tests of the keys are walks along ends.
-use Rattle.std.proofs.Common.{◌≡◌, ℕ, ◌+◌, ◌<◌, Bool, true, false, cond, not, ◌&&◌, ◌||◌, eqb, List, [], ◌∷◌, length, map, Option, Some, None, option_map, refl, sym, ap, ◌∙◌, arith}
+use Rattle.std.proofs.Common.{◌≡◌, ℕ, Bool, true, false, cond, not, ◌&&◌, ◌||◌, eqb, List, [], ◌∷◌, map, Option, Some, None, option_map, refl, sym, ap, ◌∙◌}
 use Rattle.std.specs.List.{list_any, find}
-use Rattle.std.proofs.lemmas.List.{get_or-map, length-map, map-id}
+use Rattle.std.proofs.lemmas.List.{map-id}
 use Rattle.dc_spec.specs.Pads.{Pair}
 use Rattle.dc_spec.specs.Net.{Net}
-use Rattle.dc_formats.specs.KeyFile.{ArePairsRising}
+use Rattle.dc_formats.specs.KeyFile.{AreEndsRising}
 use Rattle.dc_graph.specs.Graph.{AreRisingEdges}
 use Rattle.dc_net_rules.specs.Agreement.{key_missing, key_stray, missing_key, stray_key}
 use Rattle.dc_net.specs.declared.fault.NetFault.TheVariants.{KeyMissing, KeyStray}
@@ -15,15 +15,8 @@ use Rattle.dc_net.specs.Tests.{as_fault}
 abbrev pub pair_ends : Pair → ℕ × ℕ
 pair_ends p = (p.u, p.v)
 
-abbrev no_pair : Pair
-no_pair = record { u = 0; v = 0; a = []; b = [] }
-
-pub pairs_rise : (ps : List Pair) → ArePairsRising ps → AreRisingEdges (map pair_ends ps)
-pairs_rise ps up i d lt =
-    let more : i + 1 < length ps = omega (arith, length-map ps pair_ends) in
-    let here : i < length ps = omega arith in
-    let rises = up i no_pair more in
-    rw (get_or-map pair_ends ps i no_pair d here, get_or-map pair_ends ps (i + 1) no_pair d more) (record { lesser = rises.lesser; greater = rises.greater })
+pub pairs_rise : (ps : List Pair) → AreEndsRising (map pair_ends ps) → AreRisingEdges (map pair_ends ps)
+pairs_rise ps up i d lt = let rises = up i d lt in record { lesser = rises.lesser; greater = rises.greater }
 
 pub edges_rise : (es : List (ℕ × ℕ)) → AreRisingEdges es → AreRisingEdges (map (λ e. e) es)
 edges_rise es up = rw (map-id es) up

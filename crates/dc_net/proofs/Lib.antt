@@ -7,3 +7,10 @@ pub mod Refusals
 pub mod Columns
 pub mod Seats
 pub mod RowWalk
+pub mod RoundWords
+pub mod SeatLists
+pub mod Playing
+pub mod Recording
+pub mod SeatRounds
+pub mod Finishing
+pub mod RunIs

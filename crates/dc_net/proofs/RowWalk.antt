@@ -1,16 +1,13 @@
 -- The walk over all stations of a round: members and the others, each in their own list.
-use Rattle.std.proofs.Common.{◌≡◌, ℕ, zero, suc, ◌+◌, ◌-◌, ◌<◌, ◌≤◌, Bool, true, false, cond, not, List, [], ◌∷◌, ◌++◌, length, get_or, map, drop, filter, refl, sym, ap, subst, ◌∙◌, arith, append_assoc}
+use Rattle.std.proofs.Common.{◌≡◌, ℕ, suc, ◌+◌, ◌-◌, ◌<◌, ◌≤◌, Bool, true, false, cond, not, List, [], ◌∷◌, ◌++◌, length, get_or, map, drop, filter, sym, ap, ◌∙◌, arith, append_assoc}
 use Rattle.std.specs.List.{range_with_len}
 use Rattle.std.proofs.lemmas.List.{drop-drop, get_or-drop, length-drop, length_push}
 use Rattle.std.proofs.lemmas.List.FromFn.{map-range_with_len_more}
 use Rattle.dc_spec.specs.Words.{zero_word}
 use Rattle.dc_spec.specs.Lists.{is_among}
+use Rattle.dc_net.proofs.FirstBy.{numbers_left}
 use Rattle.dc_net.specs.WordList.{Kept}
 use Rattle.dc_net.specs.Rows.{members_of, others_of, AreWordsOf}
-
--- the numbers from i on are i and those after it
-range_from : (n i : ℕ) → i < n → range_with_len i (n - i) ≡ i ∷ range_with_len (i + 1) (n - (i + 1))
-range_from n i below = let e : n - i ≡ suc (n - (i + 1)) = omega arith in ap (λ (m : ℕ). range_with_len i m) e
 
 -- where the rest of a list is x and more, x is its next item
 next_item : (xs rest : List ℕ) (j x : ℕ) → drop j xs ≡ x ∷ rest → (j < length xs) × ((get_or xs j 0 ≡ x) × (drop (j + 1) xs ≡ rest))
@@ -20,18 +17,17 @@ next_item xs rest j x is =
     (omega arith, (sym first ∙ ap (λ (ys : List ℕ). get_or ys 0 0) is, sym (drop-drop 1 j xs) ∙ ap (λ (ys : List ℕ). drop 1 ys) is))
 
 -- a station that passes is the next item of the list of those that pass
-passing : (p : ℕ → Bool) (xs : List ℕ) (n i j : ℕ) → i < n → drop j xs ≡ filter p (range_with_len i (n - i)) → p i ≡ true
+pub passing : (p : ℕ → Bool) (xs : List ℕ) (n i j : ℕ) → i < n → drop j xs ≡ filter p (range_with_len i (n - i)) → p i ≡ true
     → (j < length xs) × ((get_or xs j 0 ≡ i) × (drop (j + 1) xs ≡ filter p (range_with_len (i + 1) (n - (i + 1)))))
 passing p xs n i j below rest passes =
-    let more = filter p (range_with_len (i + 1) (n - (i + 1))) in
-    next_item xs (filter p (range_with_len (i + 1) (n - (i + 1)))) j i (rest ∙ ap (λ (ys : List ℕ). filter p ys) (range_from n i below)
+    next_item xs (filter p (range_with_len (i + 1) (n - (i + 1)))) j i (rest ∙ ap (λ (ys : List ℕ). filter p ys) (numbers_left i n below)
     ∙ ap (λ (b : Bool). cond b (i ∷ filter p (range_with_len (i + 1) (n - (i + 1)))) (filter p (range_with_len (i + 1) (n - (i + 1))))) passes)
 
 -- a station that does not pass is passed over
-passed_over : (p : ℕ → Bool) (xs : List ℕ) (n i j : ℕ) → i < n → drop j xs ≡ filter p (range_with_len i (n - i)) → p i ≡ false
+pub passed_over : (p : ℕ → Bool) (xs : List ℕ) (n i j : ℕ) → i < n → drop j xs ≡ filter p (range_with_len i (n - i)) → p i ≡ false
     → drop j xs ≡ filter p (range_with_len (i + 1) (n - (i + 1)))
 passed_over p xs n i j below rest fails =
-    rest ∙ ap (λ (ys : List ℕ). filter p ys) (range_from n i below)
+    rest ∙ ap (λ (ys : List ℕ). filter p ys) (numbers_left i n below)
     ∙ ap (λ (b : Bool). cond b (i ∷ filter p (range_with_len (i + 1) (n - (i + 1)))) (filter p (range_with_len (i + 1) (n - (i + 1))))) fails
 
 -- the stations that come after the first i, and the words of the first i
@@ -54,7 +50,8 @@ one_more f start words w i so_far is =
     ∙ ap (λ (ws : List (List ℕ)). start ++ ws) (sym (map-range_with_len_more f 0 i i (omega arith)))
 
 -- a member, with its word
-pub Passed-member : (coalition : List ℕ) (n : ℕ) (honest said : List (List ℕ)) (start words more : Kept) (w : List ℕ) (i j k : ℕ) → Passed coalition n honest said start words i j k
+pub Passed-member : (coalition : List ℕ) (n : ℕ) (honest said : List (List ℕ)) (start words more : Kept) (w : List ℕ) (i j k : ℕ)
+    → Passed coalition n honest said start words i j k
     → i < n → is_among coalition i ≡ true → w ≡ get_or said k zero_word → more ≡ record { words = words.words ++ w ∷ []; room = words.room }
     → Passed coalition n honest said start more (i + 1) j (k + 1)
 Passed-member coalition n honest said start words more w i j k so_far below member is pushed =
@@ -68,11 +65,13 @@ Passed-member coalition n honest said start words more w i j k so_far below memb
       few_members = omega arith;
       room = ap (λ (l : Kept). l.room) pushed ∙ so_far.room;
       count = let e = so_far.count in ap (λ (l : Kept). length l.words) pushed ∙ length_push words.words w ∙ (omega arith);
-      row = λ f others members. ap (λ (l : Kept). l.words) pushed ∙ one_more f start.words words.words w i (so_far.row f others members) (is ∙ members k here.0 ∙ ap f here.1.0);
+      row = λ f others members. ap (λ (l : Kept). l.words) pushed
+          ∙ one_more f start.words words.words w i (so_far.row f others members) (is ∙ members k here.0 ∙ ap f here.1.0);
     }
 
 -- another station, with its word
-pub Passed-other : (coalition : List ℕ) (n : ℕ) (honest said : List (List ℕ)) (start words more : Kept) (w : List ℕ) (i j k : ℕ) → Passed coalition n honest said start words i j k
+pub Passed-other : (coalition : List ℕ) (n : ℕ) (honest said : List (List ℕ)) (start words more : Kept) (w : List ℕ) (i j k : ℕ)
+    → Passed coalition n honest said start words i j k
     → i < n → is_among coalition i ≡ false → w ≡ get_or honest j zero_word → more ≡ record { words = words.words ++ w ∷ []; room = words.room }
     → Passed coalition n honest said start more (i + 1) (j + 1) k
 Passed-other coalition n honest said start words more w i j k so_far below other is pushed =
@@ -86,5 +85,6 @@ Passed-other coalition n honest said start words more w i j k so_far below other
       few_members = omega arith;
       room = ap (λ (l : Kept). l.room) pushed ∙ so_far.room;
       count = let e = so_far.count in ap (λ (l : Kept). length l.words) pushed ∙ length_push words.words w ∙ (omega arith);
-      row = λ f others members. ap (λ (l : Kept). l.words) pushed ∙ one_more f start.words words.words w i (so_far.row f others members) (is ∙ others j here.0 ∙ ap f here.1.0);
+      row = λ f others members. ap (λ (l : Kept). l.words) pushed
+          ∙ one_more f start.words words.words w i (so_far.row f others members) (is ∙ others j here.0 ∙ ap f here.1.0);
     }

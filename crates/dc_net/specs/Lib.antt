@@ -7,3 +7,4 @@ pub mod KeyPart
 pub mod Seat
 pub mod WordList
 pub mod Rows
+pub mod Run

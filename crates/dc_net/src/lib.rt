@@ -1,6 +1,7 @@
 //! A whole net: its parts, whether they agree, and its run.
 #![tactic(auto)]
 
+mod book;
 mod checked_net;
 mod ends;
 mod fault;
@@ -8,11 +9,14 @@ mod key_checks;
 mod key_part;
 mod net;
 mod played;
+mod publishing;
 mod rows;
+mod running;
 mod script_checks;
 mod script_rules;
 mod script_stations;
 mod seat;
+mod seating;
 mod stations;
 mod stream_checks;
 mod word_list;
@@ -21,3 +25,4 @@ pub use checked_net::CheckedNet;
 pub use fault::NetFault;
 pub use net::{Net, Streams};
 pub use played::{Logs, Pendings, Played};
+pub use running::run;

@@ -35,8 +35,10 @@ pub length-published : (net : Net) (t : ℕ) → length (published (rounds_of ne
 unfolding rounds_of
 length-published net zero = let e : 0 ≡ 0 * net.stations = omega arith in e
 length-published net (suc t) =
-    ap (λ (ws : List (List ℕ)). length ws) (published_more net (rounds_of net t)) ∙ length-append (published (rounds_of net t)) (next_words net (rounds_of net t))
-    ∙ (let before = length-published net t in let here = length-next_words net (rounds_of net t) in let e : t * net.stations + net.stations ≡ suc t * net.stations = omega arith in omega arith)
+    ap (λ (ws : List (List ℕ)). length ws) (published_more net (rounds_of net t))
+    ∙ length-append (published (rounds_of net t)) (next_words net (rounds_of net t))
+    ∙ (let before = length-published net t in let here = length-next_words net
+    (rounds_of net t) in let e : t * net.stations + net.stations ≡ suc t * net.stations = omega arith in omega arith)
 
 -- what a station received, and what it receives in one round more
 pub history_more : (played : List Round) (round : Round) (i : ℕ) → history (played ++ round ∷ []) i ≡ history played i ++ word_of_station round.received i ∷ []
@@ -45,3 +47,8 @@ history_more played round i = map_push (λ r. word_of_station r.received i) play
 -- a station received a word in each round
 pub length-history : (net : Net) (t i : ℕ) → length (history (rounds_of net t) i) ≡ t
 length-history net t i = length-map (rounds_of net t) (λ r. word_of_station r.received i) ∙ length-rounds_of net t
+
+-- before the first round
+pub rounds_none : (net : Net) → rounds_of net 0 ≡ []
+unfolding rounds_of
+rounds_none net = refl

@@ -65,7 +65,8 @@ all_in_order items (inr at) passed = grown items at AllLine refl (summed at.part
 to_in_order : (items : List Item) (e : ℕ × List ℕ) → InOrder items → item_fault items (ToLine e) ≡ None → InOrder (items ++ ToLine e ∷ [])
 to_in_order items e (inl none) passed = absurd (let no : Some Misplaced ≡ None = rw none at passed in cc)
 to_in_order items e (inr at) passed =
-    let parts = or_parts (round_count items == 0) (has_all (since_round items)) (first_failed (round_count items == 0 || has_all (since_round items)) Misplaced (order_fault e.0 (dealt (since_round items))) passed) in
+    let parts = or_parts (round_count items == 0) (has_all (since_round items))
+    (first_failed (round_count items == 0 || has_all (since_round items)) Misplaced (order_fault e.0 (dealt (since_round items))) passed) in
     let free : has_all at.part ≡ false = ap has_all (sym (since_last items (rounds_in at.front) at.part (rounds_are items at))) ∙ parts.1 in
     grown items at (ToLine e) refl (dealing at.part e [] free refl)
 
@@ -73,7 +74,8 @@ to_in_order items e (inr at) passed =
 more_shape : (front p : List Item) (r : ℕ) (t : Term) → Shape p → may_be_added_to (last_item (front ++ RoundLine r ∷ p)) ≡ true → Shape (p ++ AddLine t ∷ [])
 more_shape front p r t (begun is) may = absurd (let no : false ≡ true = rw (is, last_item_is front (RoundLine r)) at may in cc)
 more_shape front p r t (summed q is) may =
-    let last : last_item (front ++ RoundLine r ∷ p) ≡ Some AllLine = ap (λ (ls : List Item). last_item (front ++ RoundLine r ∷ ls)) is ∙ ap last_item (sym (append_assoc front (RoundLine r ∷ q) (AllLine ∷ []))) ∙ last_item_is (front ++ RoundLine r ∷ q) AllLine in
+    let last : last_item (front ++ RoundLine r ∷ p) ≡ Some AllLine = ap (λ (ls : List Item). last_item (front ++ RoundLine r ∷ ls)) is
+    ∙ ap last_item (sym (append_assoc front (RoundLine r ∷ q) (AllLine ∷ []))) ∙ last_item_is (front ++ RoundLine r ∷ q) AllLine in
     absurd (let no : false ≡ true = rw last at may in cc)
 more_shape front p r t (saying q e terms none free is) may = saying q e (terms ++ t ∷ []) none free (ap (λ (ls : List Item). ls ++ AddLine t ∷ []) is ∙ longer q (SayLine e) terms t)
 more_shape front p r t (dealing q e terms none is) may = dealing q e (terms ++ t ∷ []) none (ap (λ (ls : List Item). ls ++ AddLine t ∷ []) is ∙ longer q (ToLine e) terms t)
@@ -82,7 +84,8 @@ add_in_order : (items : List Item) (t : Term) → InOrder items → item_fault i
 add_in_order items t (inl none) passed = absurd (let no : Some Misplaced ≡ None = rw none at passed in cc)
 add_in_order items t (inr at) passed =
     let may : may_be_added_to (last_item items) ≡ true = first_passed (may_be_added_to (last_item items)) Misplaced
-    (cond (nat_lt (round_count items - 1) t.round) (Some (Late t.round (reported_round (round_count items - 1)))) (cond (not (is_above_before t (last_item items))) (Some Unordered) (cond (nat_le most_terms (term_count items)) (Some Terms) None))) passed in
+    (cond (nat_lt (round_count items - 1) t.round) (Some (Late t.round (reported_round (round_count items - 1))))
+    (cond (not (is_above_before t (last_item items))) (Some Unordered) (cond (nat_le most_terms (term_count items)) (Some Terms) None))) passed in
     grown items at (AddLine t) refl (more_shape at.front at.part at.number t at.shape (ap (λ (ls : List Item). may_be_added_to (last_item ls)) (sym at.is) ∙ may))
 
 pub item_in_order : (items : List Item) (x : Item) → InOrder items → item_fault items x ≡ None → InOrder (items ++ x ∷ [])
@@ -123,18 +126,21 @@ turns_then front p p_more r t none longer_is =
     let free : list_any is_round p_more ≡ false = ap (list_any is_round) (sym longer_is) ∙ any_more is_round p (AddLine t) ∙ rw none refl in
     ap turns_of_items lines ∙ turns_are front p_more r free
 
-says_made : (done : List Turn) (ws : List Said) (w : Said) (t : Term) (o : Option ScriptKind) → says_after done (term_after ws w t o) ≡ made (done ++ record { says = ws ++ said_with w t ∷ []; delivery = each [] } ∷ []) o
+says_made : (done : List Turn) (ws : List Said) (w : Said) (t : Term) (o : Option ScriptKind)
+    → says_after done (term_after ws w t o) ≡ made (done ++ record { says = ws ++ said_with w t ∷ []; delivery = each [] } ∷ []) o
 unfolding made
 says_made done ws w t None = refl
 says_made done ws w t (Some kind) = refl
 
-words_made : (done : List Turn) (says ws : List Said) (w : Said) (t : Term) (o : Option ScriptKind) → words_after done says (term_after ws w t o) ≡ made (done ++ record { says = says; delivery = each (ws ++ said_with w t ∷ []) } ∷ []) o
+words_made : (done : List Turn) (says ws : List Said) (w : Said) (t : Term) (o : Option ScriptKind)
+    → words_after done says (term_after ws w t o) ≡ made (done ++ record { says = says; delivery = each (ws ++ said_with w t ∷ []) } ∷ []) o
 unfolding made
 words_made done says ws w t None = refl
 words_made done says ws w t (Some kind) = refl
 
 -- of a word that is dealt
-dealt_add : (c : ℕ) (done : List Turn) (says ws : List Said) (w : Said) (t : Term) → with_add c (done ++ record { says = says; delivery = each (ws ++ w ∷ []) } ∷ []) t ≡ words_after done says (term_after ws w t (term_fault (length done) c w.terms t))
+dealt_add : (c : ℕ) (done : List Turn) (says ws : List Said) (w : Said) (t : Term)
+    → with_add c (done ++ record { says = says; delivery = each (ws ++ w ∷ []) } ∷ []) t ≡ words_after done says (term_after ws w t (term_fault (length done) c w.terms t))
 dealt_add c done says [] w t = add_words c done says w [] t ∙ ap (words_after done says) (term_at (length done) c [] w t)
 dealt_add c done says (x ∷ ws) w t = add_words c done says x (ws ++ w ∷ []) t ∙ ap (words_after done says) (term_at (length done) c (x ∷ ws) w t)
 
@@ -155,7 +161,8 @@ summed_made c front q r t none =
     (ap (λ (ts : List Turn). with_add c ts t) (turns_are front (q ++ AllLine ∷ []) r none ∙ ap (λ (u : Turn). turns_before front ++ u ∷ []) (more_all q)) ∙ add_sum c (turns_before front) (said q) t)
 
 -- the line right before is of the last word
-follows_in : (front q : List Item) (r : ℕ) (x : Item) (terms : List Term) (t : Term) → may_be_added_to (Some x) ≡ true → is_above_before t (Some x) ≡ true → Follows (in_round front r (q ++ x ∷ adds terms)) terms t
+follows_in : (front q : List Item) (r : ℕ) (x : Item) (terms : List Term) (t : Term) → may_be_added_to (Some x) ≡ true → is_above_before t (Some x) ≡ true
+    → Follows (in_round front r (q ++ x ∷ adds terms)) terms t
 follows_in front q r x terms t may above =
     subst (λ (ls : List Item). Follows ls terms t) (append_assoc front (RoundLine r ∷ q) (x ∷ adds terms)) (follows (front ++ RoundLine r ∷ q) x terms t may above)
 
@@ -167,7 +174,8 @@ saying_made c front q r e terms t none free no_round room =
     let o : Option ScriptKind = term_fault (length done) c terms t in
     let fault = fault_is (in_round front r (says_at q e terms)) (length done) c terms t (follows_in front q r (SayLine e) terms t refl refl) (number_is front (says_at q e terms) r no_round) room in
     let before = turns_are front (says_at q e terms) r no_round ∙ ap (λ (u : Turn). done ++ u ∷ []) (says_turn q e terms none free) in
-    let after = turns_then front (says_at q e terms) (says_at q e (terms ++ t ∷ [])) r t no_round (longer q (SayLine e) terms t) ∙ ap (λ (u : Turn). done ++ u ∷ []) (says_turn q e (terms ++ t ∷ []) none free) in
+    let after = turns_then front (says_at q e terms) (says_at q e (terms ++ t ∷ [])) r t no_round (longer q (SayLine e) terms t)
+    ∙ ap (λ (u : Turn). done ++ u ∷ []) (says_turn q e (terms ++ t ∷ []) none free) in
     ap (λ (ts : List Turn). with_add c ts t) before
     ∙ add_says c done (said q ++ w ∷ []) t ∙ ap (says_after done) (term_at (length done) c (said q) w t)
     ∙ says_made done (said q) w t o
@@ -182,7 +190,8 @@ dealing_made c front q r e terms t none no_round room =
     let o : Option ScriptKind = term_fault (length done) c terms t in
     let fault = fault_is (in_round front r (deals_at q e terms)) (length done) c terms t (follows_in front q r (ToLine e) terms t refl refl) (number_is front (deals_at q e terms) r no_round) room in
     let before = turns_are front (deals_at q e terms) r no_round ∙ ap (λ (u : Turn). done ++ u ∷ []) (deals_turn q e terms none) in
-    let after = turns_then front (deals_at q e terms) (deals_at q e (terms ++ t ∷ [])) r t no_round (longer q (ToLine e) terms t) ∙ ap (λ (u : Turn). done ++ u ∷ []) (deals_turn q e (terms ++ t ∷ []) none) in
+    let after = turns_then front (deals_at q e terms) (deals_at q e (terms ++ t ∷ [])) r t no_round (longer q (ToLine e) terms t)
+    ∙ ap (λ (u : Turn). done ++ u ∷ []) (deals_turn q e (terms ++ t ∷ []) none) in
     ap (λ (ts : List Turn). with_add c ts t) before
     ∙ dealt_add c done (said q) (dealt q) w t
     ∙ words_made done (said q) (dealt q) w t o

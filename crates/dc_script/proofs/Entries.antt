@@ -83,7 +83,8 @@ may_follow r c terms term e =
     record { no_later = ltb-false _ _ parts.0; next = parts.1; room = leb-false _ _ parts.2 }
 
 -- the test of the last term
-next_term_above : (term : Term) (terms : List Term) (d : Term) → is_above_last_term term terms ≡ true → 0 < length terms → IsTrue (is_before (term_order (get_or terms (length terms - 1) d)) (term_order term))
+next_term_above : (term : Term) (terms : List Term) (d : Term) → is_above_last_term term terms ≡ true → 0 < length terms
+    → IsTrue (is_before (term_order (get_or terms (length terms - 1) d)) (term_order term))
 next_term_above term [] d e lt = absurd (omega arith)
 next_term_above term (t ∷ terms) d e lt =
     let some : (length (t ∷ terms) == 0) ≡ false = ne_eqb (length (t ∷ terms)) 0 (λ z. absurd (omega arith)) in

@@ -30,7 +30,8 @@ last_lines done t =
 -- a last turn of which more lines are known
 grown_lines : (done : List Turn) (t u : Turn) (more : List ℕ) → turn_lines (length done) u ≡ turn_lines (length done) t ++ more → lines_from 0 (done ++ u ∷ []) ≡ lines_from 0 (done ++ t ∷ []) ++ more
 grown_lines done t u more e =
-    last_lines done u ∙ ap (λ (ls : List ℕ). lines_from 0 done ++ ls) e ∙ sym (append_assoc (lines_from 0 done) (turn_lines (length done) t) more) ∙ ap (λ (ls : List ℕ). ls ++ more) (sym (last_lines done t))
+    last_lines done u ∙ ap (λ (ls : List ℕ). lines_from 0 done ++ ls) e ∙ sym (append_assoc (lines_from 0 done) (turn_lines (length done) t) more)
+    ∙ ap (λ (ls : List ℕ). ls ++ more) (sym (last_lines done t))
 
 -- one more piece
 one_piece : {X : Type 0} (f : X → List ℕ) (xs : List X) (x : X) → flat_map f (xs ++ x ∷ []) ≡ flat_map f xs ++ f x
@@ -47,7 +48,8 @@ plain_lines beginning ws e = one_piece (said_lines beginning) ws (plain_said e) 
 term_lines : (beginning : List ℕ) (ws : List Said) (w : Said) (term : Term) → listed_lines beginning (ws ++ said_with w term ∷ []) ≡ listed_lines beginning (ws ++ w ∷ []) ++ line (term_text term)
 term_lines beginning ws w term =
     let head : List ℕ = station_word_line beginning w.station w.word in
-    let one : said_lines beginning (said_with w term) ≡ said_lines beginning w ++ term_line term = ap (λ (ls : List ℕ). head ++ ls) (one_piece term_line w.terms term) ∙ sym (append_assoc head (flat_map term_line w.terms) (term_line term)) in
+    let one : said_lines beginning (said_with w term) ≡ said_lines beginning w ++ term_line term = ap (λ (ls : List ℕ). head ++ ls) (one_piece term_line w.terms term)
+    ∙ sym (append_assoc head (flat_map term_line w.terms) (term_line term)) in
     one_piece (said_lines beginning) ws (said_with w term) ∙ ap (λ (ls : List ℕ). listed_lines beginning ws ++ ls) one
     ∙ sym (append_assoc (listed_lines beginning ws) (said_lines beginning w) (term_line term))
     ∙ ap (λ (ls : List ℕ). ls ++ term_line term) (sym (one_piece (said_lines beginning) ws w))
@@ -103,11 +105,13 @@ round_lines turns r new e =
 say_lines : (done : List Turn) (t : Turn) (e : ℕ × List ℕ) (new : List Turn) → with_say (done ++ t ∷ []) e ≡ Ok new
     → lines_from 0 new ≡ lines_from 0 (done ++ t ∷ []) ++ line (entry_text (codes "say ") e)
 say_lines done t e new h =
-    let told = after_two (is_undelivered t.delivery) (not (is_above_last e.0 t.says)) (Order e.0) Misplaced (done ++ record { says = t.says ++ plain_said e ∷ []; delivery = t.delivery } ∷ []) new (sym (say_at done t e) ∙ h) in
+    let told = after_two (is_undelivered t.delivery) (not (is_above_last e.0 t.says)) (Order e.0) Misplaced
+    (done ++ record { says = t.says ++ plain_said e ∷ []; delivery = t.delivery } ∷ []) new (sym (say_at done t e) ∙ h) in
     let none : t.delivery ≡ each [] = told_each t.delivery told.0 in
     ap (lines_from 0) (sym told.2) ∙ grown_lines done t (record { says = t.says ++ plain_said e ∷ []; delivery = t.delivery }) (line (entry_text (codes "say ") e))
     (ap (λ (d : Delivery). turn_lines (length done) (record { says = t.says ++ plain_said e ∷ []; delivery = d })) none
-    ∙ says_grow (round_line done) (listed_lines (codes "say ") t.says) (listed_lines (codes "say ") (t.says ++ plain_said e ∷ [])) (line (entry_text (codes "say ") e)) (plain_lines (codes "say ") t.says e)
+    ∙ says_grow (round_line done) (listed_lines (codes "say ") t.says) (listed_lines (codes "say ") (t.says ++ plain_said e ∷ [])) (line (entry_text (codes "say ") e))
+    (plain_lines (codes "say ") t.says e)
     ∙ ap (λ (d : Delivery). turn_lines (length done) (record { says = t.says; delivery = d }) ++ line (entry_text (codes "say ") e)) (sym none))
 
 -- all receive the sum
@@ -125,8 +129,10 @@ to_lines : (done : List Turn) (says : List Said) (d : Delivery) (e : ℕ × List
 to_lines done says all_sum e new h = let no : Err Misplaced ≡ Ok new = sym (to_sum done says e) ∙ h in absurd cc
 to_lines done says (each dealt) e new h =
     let told = after_one (not (is_above_last e.0 dealt)) (Order e.0) (done ++ record { says = says; delivery = each (dealt ++ plain_said e ∷ []) } ∷ []) new (sym (to_at done says dealt e) ∙ h) in
-    ap (lines_from 0) (sym told.1) ∙ grown_lines done (record { says = says; delivery = each dealt }) (record { says = says; delivery = each (dealt ++ plain_said e ∷ []) }) (line (entry_text (codes "to ") e))
-    (words_grow (round_line done ++ listed_lines (codes "say ") says) (listed_lines (codes "to ") dealt) (listed_lines (codes "to ") (dealt ++ plain_said e ∷ [])) (line (entry_text (codes "to ") e)) (plain_lines (codes "to ") dealt e))
+    ap (lines_from 0) (sym told.1) ∙ grown_lines done (record { says = says; delivery = each dealt }) (record { says = says; delivery = each (dealt ++ plain_said e ∷ []) })
+    (line (entry_text (codes "to ") e))
+    (words_grow (round_line done ++ listed_lines (codes "say ") says) (listed_lines (codes "to ") dealt) (listed_lines (codes "to ") (dealt ++ plain_said e ∷ []))
+    (line (entry_text (codes "to ") e)) (plain_lines (codes "to ") dealt e))
 
 -- the words before and after a term that is added
 added_lines : (r c : ℕ) (beginning : List ℕ) (listed new : List Said) (term : Term) → AddedTo r c listed new term → listed_lines beginning new ≡ listed_lines beginning listed ++ line (term_text term)
@@ -137,10 +143,12 @@ add_lines : (c : ℕ) (done : List Turn) (says : List Said) (d : Delivery) (term
     → lines_from 0 new ≡ lines_from 0 (done ++ record { says = says; delivery = d } ∷ []) ++ line (term_text term)
 add_lines c done says d term new h = elim (added c done says d term new h) [
   | inl said ↦ ap (lines_from 0) said.is ∙ grown_lines done (record { says = says; delivery = d }) (record { says = said.listed; delivery = each [] }) (line (term_text term))
-      (says_grow (round_line done) (listed_lines (codes "say ") says) (listed_lines (codes "say ") said.listed) (line (term_text term)) (added_lines (length done) c (codes "say ") says said.listed term said.to)
+      (says_grow (round_line done) (listed_lines (codes "say ") says) (listed_lines (codes "say ") said.listed) (line (term_text term))
+      (added_lines (length done) c (codes "say ") says said.listed term said.to)
       ∙ ap (λ (dd : Delivery). turn_lines (length done) (record { says = says; delivery = dd }) ++ line (term_text term)) (sym said.delivery))
   | inr dealt ↦ ap (lines_from 0) dealt.is ∙ grown_lines done (record { says = says; delivery = d }) (record { says = says; delivery = each dealt.listed }) (line (term_text term))
-      (words_grow (round_line done ++ listed_lines (codes "say ") says) (listed_lines (codes "to ") dealt.before) (listed_lines (codes "to ") dealt.listed) (line (term_text term)) (added_lines (length done) c (codes "to ") dealt.before dealt.listed term dealt.to)
+      (words_grow (round_line done ++ listed_lines (codes "say ") says) (listed_lines (codes "to ") dealt.before) (listed_lines (codes "to ") dealt.listed) (line (term_text term))
+      (added_lines (length done) c (codes "to ") dealt.before dealt.listed term dealt.to)
       ∙ ap (λ (dd : Delivery). turn_lines (length done) (record { says = says; delivery = dd }) ++ line (term_text term)) (sym dealt.delivery))
 ]
 

@@ -84,7 +84,8 @@ chosen_ok false r f x e = absurd cc
 -- what is read is a word
 word_is_word : (text w : List ℕ) → word_of_text text ≡ Ok w → IsWord w
 word_is_word text w e =
-    let read = digits_ok text w (position (λ c. is_none (digit_in c)) text) (chosen_ok (length text == 80) (word_of_digits text (position (λ c. is_none (digit_in c)) text)) (Length (length text)) w e) in
+    let read = digits_ok text w (position (λ c. is_none (digit_in c)) text)
+    (chosen_ok (length text == 80) (word_of_digits text (position (λ c. is_none (digit_in c)) text)) (Length (length text)) w e) in
     let judged = judged_ok (numbers_of (map count_of text)) w (position (λ x. nat_lt 65536 x) (numbers_of (map count_of text))) read in
     IsWord-from_position w (ap length (sym judged.1) ∙ length-word_of (λ l. symbol_at (map count_of text) (5 * l))) (sym (ap (position (λ x. nat_lt 65536 x)) (sym judged.1) ∙ judged.0))
 
@@ -103,11 +104,14 @@ parts_found number word (Some i) (Ok w) e m s h =
 -- an entry that is read is written so
 entry_found : (text : List ℕ) (e : ℕ × List ℕ) → entry_in text ≡ Some e → (text ≡ (decimal e.0 ++ codes " ") ++ word_text e.1) × IsEntry e
 entry_found text e h =
-    let long = not_chosen (nat_lt (length text) 81) (cond (get_or text (length text - 81) 0 == 32) (station_with_word (number_in (take (length text - 81) text)) (word_of_text (drop (length text - 81 + 1) text))) None) e h in
+    let long = not_chosen (nat_lt (length text) 81) (cond (get_or text (length text - 81) 0 == 32)
+    (station_with_word (number_in (take (length text - 81) text)) (word_of_text (drop (length text - 81 + 1) text))) None) e h in
     let blank = chosen (get_or text (length text - 81) 0 == 32) (station_with_word (number_in (take (length text - 81) text)) (word_of_text (drop (length text - 81 + 1) text))) e long.1 in
-    let parts = parts_found (take (length text - 81) text) (drop (length text - 81 + 1) text) (number_in (take (length text - 81) text)) (word_of_text (drop (length text - 81 + 1) text)) e refl refl blank.1 in
+    let parts = parts_found (take (length text - 81) text) (drop (length text - 81 + 1) text) (number_in (take (length text - 81) text))
+    (word_of_text (drop (length text - 81 + 1) text)) e refl refl blank.1 in
     let room : 81 ≤ length text = ltb-false _ _ long.0 in
-    let rest : drop (length text - 81) text ≡ 32 ∷ word_text e.1 = drop_more text (length text - 81) 0 (omega arith) ∙ ap (λ (c : ℕ). c ∷ drop (length text - 81 + 1) text) (eqb-true _ _ blank.0) ∙ ap (λ (w : List ℕ). 32 ∷ w) parts.1 in
+    let rest : drop (length text - 81) text ≡ 32 ∷ word_text e.1 = drop_more text (length text - 81) 0 (omega arith)
+    ∙ ap (λ (c : ℕ). c ∷ drop (length text - 81 + 1) text) (eqb-true _ _ blank.0) ∙ ap (λ (w : List ℕ). 32 ∷ w) parts.1 in
     (sym (take-append-drop (length text - 81) text) ∙ rw (parts.0, rest) (sym (append_assoc (decimal e.0) (32 ∷ []) (word_text e.1))), parts.2)
 
 -- a text with a beginning
@@ -141,7 +145,8 @@ round_found version text item has e =
     let found = written_so (drop 6 text) made.0 made.1 in
     subst (IsSpelled version text) made.2 (begins text (codes "round ") has ∙ ap (λ (rest : List ℕ). codes "round " ++ rest) found.1, found.0)
 
-add_found : (version : ℕ) (text : List ℕ) (item : Item) → starts_with nat_eq text (codes "add ") ≡ true → cond (version == 2) (option_map AddLine (term_in (drop 4 text))) None ≡ Some item → IsSpelled version text item
+add_found : (version : ℕ) (text : List ℕ) (item : Item) → starts_with nat_eq text (codes "add ") ≡ true → cond (version == 2) (option_map AddLine (term_in (drop 4 text))) None ≡ Some item
+    → IsSpelled version text item
 add_found version text item has e =
     let second = chosen (version == 2) (option_map AddLine (term_in (drop 4 text))) item e in
     let made = mapped AddLine (term_in (drop 4 text)) item second.1 in

@@ -52,7 +52,8 @@ waits done t = rw (some_there done t, last_is done t) refl
 
 -- one more word said
 pub say_at : (done : List Turn) (t : Turn) (e : ℕ × List ℕ)
-    → with_say (done ++ t ∷ []) e ≡ cond (is_undelivered t.delivery) (cond (not (is_above_last e.0 t.says)) (Err (Order e.0)) (Ok (done ++ record { says = t.says ++ plain_said e ∷ []; delivery = t.delivery } ∷ []))) (Err Misplaced)
+    → with_say (done ++ t ∷ []) e ≡ cond (is_undelivered t.delivery)
+    (cond (not (is_above_last e.0 t.says)) (Err (Order e.0)) (Ok (done ++ record { says = t.says ++ plain_said e ∷ []; delivery = t.delivery } ∷ []))) (Err Misplaced)
 say_at done t e = rw (waits done t, last_is done t, with_last_is done t (record { says = t.says ++ plain_said e ∷ []; delivery = t.delivery })) refl
 
 -- all receive the sum
@@ -61,7 +62,8 @@ all_at done t = rw (waits done t, last_is done t, with_last_is done t (record { 
 
 -- one more word dealt
 pub to_at : (done : List Turn) (says dealt : List Said) (e : ℕ × List ℕ)
-    → with_to (done ++ record { says = says; delivery = each dealt } ∷ []) e ≡ cond (not (is_above_last e.0 dealt)) (Err (Order e.0)) (Ok (done ++ record { says = says; delivery = each (dealt ++ plain_said e ∷ []) } ∷ []))
+    → with_to (done ++ record { says = says; delivery = each dealt } ∷ []) e ≡ cond (not (is_above_last e.0 dealt)) (Err (Order e.0))
+    (Ok (done ++ record { says = says; delivery = each (dealt ++ plain_said e ∷ []) } ∷ []))
 to_at done says dealt e =
     let t : Turn = record { says = says; delivery = each dealt } in
     rw (not_none done t, last_is done t, with_last_is done t (record { says = says; delivery = each (dealt ++ plain_said e ∷ []) })) refl

@@ -126,7 +126,8 @@ lacks_at items ps p is = ap (λ (part : List Item). nat_le 1 (round_count items)
 pub same_waiting : (items : List Item) → is_waiting (turns_of_items items) ≡ lacks_delivery items
 same_waiting items = elim (last_round (rounds_in items)) [
   | inl none ↦ rw none refl
-  | inr some ↦ ap is_waiting (turns_last items some.before some.part some.is) ∙ waits (map turn_of_items some.before) (turn_of_items some.part) ∙ undelivered_part some.part ∙ sym (lacks_at items some.before some.part some.is)
+  | inr some ↦ ap is_waiting (turns_last items some.before some.part some.is) ∙ waits (map turn_of_items some.before) (turn_of_items some.part) ∙ undelivered_part some.part
+      ∙ sym (lacks_at items some.before some.part some.is)
 ]
 
 -- what is made of a fault, or of none
@@ -234,8 +235,10 @@ turns_more items x ps p other is = turns_last (items ++ x ∷ []) ps (p ++ x ∷
 pub made_round : (c : ℕ) (items : List Item) (r : ℕ) → Made c items (RoundLine r)
 made_round c items r =
     let count : length (turns_of_items items) ≡ round_count items = length-map (rounds_in items) turn_of_items in
-    let turns : turns_of_items (items ++ RoundLine r ∷ []) ≡ turns_of_items items ++ begun_turn ∷ [] = ap (map turn_of_items) (rounds_round r items) ∙ map-append turn_of_items (rounds_in items) ([] ∷ []) in
-    rw (same_waiting items, count, turns) (made_of_three (lacks_delivery items) (not (r == round_count items)) (nat_le 4096 (round_count items)) Missing (Round r (reported_count (round_count items))) TooMany (turns_of_items items ++ begun_turn ∷ []))
+    let turns : turns_of_items (items ++ RoundLine r ∷ []) ≡ turns_of_items items ++ begun_turn ∷ [] = ap (map turn_of_items) (rounds_round r items)
+    ∙ map-append turn_of_items (rounds_in items) ([] ∷ []) in
+    rw (same_waiting items, count, turns) (made_of_three (lacks_delivery items) (not (r == round_count items)) (nat_le 4096 (round_count items)) Missing
+    (Round r (reported_count (round_count items))) TooMany (turns_of_items items ++ begun_turn ∷ []))
 
 -- a word said
 pub made_say : (c : ℕ) (items : List Item) (e : ℕ × List ℕ) → Made c items (SayLine e)
@@ -244,14 +247,18 @@ made_say c items e = elim (last_round (rounds_in items)) [
   | inl none ↦ rw none refl
   | inr some ↦ (
       let waiting : is_undelivered (turn_of_items some.part).delivery ≡ lacks_delivery items = undelivered_part some.part ∙ sym (lacks_at items some.before some.part some.is) in
-      let before : with_say (turns_of_items items) e ≡ cond (is_undelivered (turn_of_items some.part).delivery) (cond (not (is_above_last e.0 (said some.part))) (Err (Order e.0)) (Ok (map turn_of_items some.before ++ record { says = said some.part ++ plain_said e ∷ []; delivery = (turn_of_items some.part).delivery } ∷ []))) (Err Misplaced)
+      let before : with_say (turns_of_items items) e ≡ cond (is_undelivered (turn_of_items some.part).delivery)
+      (cond (not (is_above_last e.0 (said some.part))) (Err (Order e.0))
+      (Ok (map turn_of_items some.before ++ record { says = said some.part ++ plain_said e ∷ []; delivery = (turn_of_items some.part).delivery } ∷ []))) (Err Misplaced)
       = ap (λ (ts : List Turn). with_say ts e) (turns_last items some.before some.part some.is) ∙ say_at (map turn_of_items some.before) (turn_of_items some.part) e in
       let after : turns_of_items (items ++ SayLine e ∷ []) ≡ map turn_of_items some.before ++ record { says = said some.part ++ plain_said e ∷ []; delivery = (turn_of_items some.part).delivery } ∷ []
       = turns_more items (SayLine e) some.before some.part refl some.is ∙ ap (λ (t : Turn). map turn_of_items some.before ++ t ∷ []) (more_said some.part e) in
-      before ∙ ap (λ (b : Bool). cond b (cond (not (is_above_last e.0 (said some.part))) (Err (Order e.0)) (Ok (map turn_of_items some.before ++ record { says = said some.part ++ plain_said e ∷ []; delivery = (turn_of_items some.part).delivery } ∷ []))) (Err Misplaced)) waiting
+      before ∙ ap (λ (b : Bool). cond b (cond (not (is_above_last e.0 (said some.part))) (Err (Order e.0))
+      (Ok (map turn_of_items some.before ++ record { says = said some.part ++ plain_said e ∷ []; delivery = (turn_of_items some.part).delivery } ∷ []))) (Err Misplaced)) waiting
       ∙ made_of_two (lacks_delivery items) (is_above_last e.0 (said some.part)) (Order e.0) Misplaced _
       ∙ ap (λ (ts : List Turn). made ts (cond (not (lacks_delivery items)) (Some Misplaced) (order_fault e.0 (said some.part)))) (sym after)
-      ∙ ap (λ (part : List Item). made (turns_of_items (items ++ SayLine e ∷ [])) (cond (not (lacks_delivery items)) (Some Misplaced) (order_fault e.0 (said part)))) (sym (since_last items some.before some.part some.is)))
+      ∙ ap (λ (part : List Item). made (turns_of_items (items ++ SayLine e ∷ [])) (cond (not (lacks_delivery items)) (Some Misplaced) (order_fault e.0 (said part))))
+      (sym (since_last items some.before some.part some.is)))
 ]
 
 -- all receive the sum
@@ -261,7 +268,8 @@ made_all c items = elim (last_round (rounds_in items)) [
   | inl none ↦ rw none refl
   | inr some ↦ (
       let waiting : is_undelivered (turn_of_items some.part).delivery ≡ lacks_delivery items = undelivered_part some.part ∙ sym (lacks_at items some.before some.part some.is) in
-      let before : with_all (turns_of_items items) ≡ cond (is_undelivered (turn_of_items some.part).delivery) (Ok (map turn_of_items some.before ++ record { says = said some.part; delivery = all_sum } ∷ [])) (Err Misplaced)
+      let before : with_all (turns_of_items items) ≡ cond (is_undelivered (turn_of_items some.part).delivery)
+      (Ok (map turn_of_items some.before ++ record { says = said some.part; delivery = all_sum } ∷ [])) (Err Misplaced)
       = ap with_all (turns_last items some.before some.part some.is) ∙ all_at (map turn_of_items some.before) (turn_of_items some.part) in
       let after : turns_of_items (items ++ AllLine ∷ []) ≡ map turn_of_items some.before ++ record { says = said some.part; delivery = all_sum } ∷ []
       = turns_more items AllLine some.before some.part refl some.is ∙ ap (λ (t : Turn). map turn_of_items some.before ++ t ∷ []) (more_all some.part) in
@@ -286,12 +294,15 @@ made_to c items e = elim (last_round (rounds_in items)) [
       elim (cases_Bool (has_all some.part)) [
         | inl all ↦ (
             let part : turn_of_items some.part ≡ record { says = said some.part; delivery = all_sum } = rw all refl in
-            let before : with_to (turns_of_items items) e ≡ Err Misplaced = ap (λ (ts : List Turn). with_to ts e) (turns ∙ ap (λ (t : Turn). map turn_of_items some.before ++ t ∷ []) part) ∙ to_sum (map turn_of_items some.before) (said some.part) e in
+            let before : with_to (turns_of_items items) e ≡ Err Misplaced = ap (λ (ts : List Turn). with_to ts e) (turns ∙ ap (λ (t : Turn). map turn_of_items some.before ++ t ∷ []) part)
+            ∙ to_sum (map turn_of_items some.before) (said some.part) e in
             before ∙ rw (count, since, all) refl)
         | inr words ↦ (
             let part : turn_of_items some.part ≡ record { says = said some.part; delivery = each (dealt some.part) } = rw words refl in
-            let before : with_to (turns_of_items items) e ≡ cond (not (is_above_last e.0 (dealt some.part))) (Err (Order e.0)) (Ok (map turn_of_items some.before ++ record { says = said some.part; delivery = each (dealt some.part ++ plain_said e ∷ []) } ∷ []))
-            = ap (λ (ts : List Turn). with_to ts e) (turns ∙ ap (λ (t : Turn). map turn_of_items some.before ++ t ∷ []) part) ∙ to_at (map turn_of_items some.before) (said some.part) (dealt some.part) e in
+            let before : with_to (turns_of_items items) e ≡ cond (not (is_above_last e.0 (dealt some.part))) (Err (Order e.0))
+            (Ok (map turn_of_items some.before ++ record { says = said some.part; delivery = each (dealt some.part ++ plain_said e ∷ []) } ∷ []))
+            = ap (λ (ts : List Turn). with_to ts e) (turns ∙ ap (λ (t : Turn). map turn_of_items some.before ++ t ∷ []) part)
+            ∙ to_at (map turn_of_items some.before) (said some.part) (dealt some.part) e in
             let after : turns_of_items (items ++ ToLine e ∷ []) ≡ map turn_of_items some.before ++ record { says = said some.part; delivery = each (dealt some.part ++ plain_said e ∷ []) } ∷ []
             = turns_more items (ToLine e) some.before some.part refl some.is ∙ ap (λ (t : Turn). map turn_of_items some.before ++ t ∷ []) (more_dealt some.part e words) in
             before ∙ made_of_next (is_above_last e.0 (dealt some.part)) (Order e.0) _ ∙ rw (after, count, since, words) refl)

@@ -59,14 +59,16 @@ deals_at q e terms = q ++ ToLine e ∷ adds terms
 abbrev pub word_of_lines : ℕ × List ℕ → List Term → Said
 word_of_lines e terms = record { station = e.0; word = e.1; terms = terms }
 
-pub says_turn : (q : List Item) (e : ℕ × List ℕ) (terms : List Term) → has_all q ≡ false → dealt q ≡ [] → turn_of_items (says_at q e terms) ≡ record { says = said q ++ word_of_lines e terms ∷ []; delivery = each [] }
+pub says_turn : (q : List Item) (e : ℕ × List ℕ) (terms : List Term) → has_all q ≡ false → dealt q ≡ []
+    → turn_of_items (says_at q e terms) ≡ record { says = said q ++ word_of_lines e terms ∷ []; delivery = each [] }
 says_turn q e terms none nothing =
     let says : said (says_at q e terms) ≡ said q ++ word_of_lines e terms ∷ [] = said-append q (SayLine e) (adds terms) refl ∙ rw (adds_front terms, no_said terms) refl in
     let words : dealt (says_at q e terms) ≡ [] = dealt-append q (SayLine e) (adds terms) refl ∙ rw (nothing, no_dealt terms) refl in
     let all : has_all (says_at q e terms) ≡ false = any-append is_all q (SayLine e ∷ adds terms) ∙ neither (has_all q) (has_all (SayLine e ∷ adds terms)) none (no_all terms) in
     rw (says, words, all) refl
 
-pub deals_turn : (q : List Item) (e : ℕ × List ℕ) (terms : List Term) → has_all q ≡ false → turn_of_items (deals_at q e terms) ≡ record { says = said q; delivery = each (dealt q ++ word_of_lines e terms ∷ []) }
+pub deals_turn : (q : List Item) (e : ℕ × List ℕ) (terms : List Term) → has_all q ≡ false
+    → turn_of_items (deals_at q e terms) ≡ record { says = said q; delivery = each (dealt q ++ word_of_lines e terms ∷ []) }
 deals_turn q e terms none =
     let says : said (deals_at q e terms) ≡ said q = said-append q (ToLine e) (adds terms) refl ∙ rw (no_said terms) (append-nil (said q)) in
     let words : dealt (deals_at q e terms) ≡ dealt q ++ word_of_lines e terms ∷ [] = dealt-append q (ToLine e) (adds terms) refl ∙ rw (adds_front terms, no_dealt terms) refl in

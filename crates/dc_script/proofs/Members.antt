@@ -15,7 +15,8 @@ kept_more p a (suc n) =
     let rest = kept_more p (a + 1) n in
     let place : a + 1 + n ≡ a + suc n = omega arith in
     let one : suc n + 1 ≡ suc (n + 1) = omega arith in
-    rw one (elim (p a) as (λ b. cond b (a ∷ filter p (range_with_len (a + 1) (n + 1))) (filter p (range_with_len (a + 1) (n + 1))) ≡ cond b (a ∷ filter p (range_with_len (a + 1) n)) (filter p (range_with_len (a + 1) n)) ++ cond (p (a + suc n)) ((a + suc n) ∷ []) []) [
+    rw one (elim (p a) as (λ b. cond b (a ∷ filter p (range_with_len (a + 1) (n + 1))) (filter p (range_with_len (a + 1) (n + 1))) ≡ cond b (a ∷ filter p (range_with_len (a + 1) n))
+    (filter p (range_with_len (a + 1) n)) ++ cond (p (a + suc n)) ((a + suc n) ∷ []) []) [
       | true ↦ rw (rest, place) refl
       | false ↦ rw (rest, place) refl
     ])
@@ -77,4 +78,5 @@ members_kept ms n up below =
 pub zero_words_more : {Y : Type 0} (f : ℕ → Y) (p : ℕ → Bool) (n : ℕ) → map f (filter p (range_with_len 0 (n + 1))) ≡ map f (filter p (range_with_len 0 n)) ++ cond (p n) (f n ∷ []) []
 zero_words_more f p n =
     let more : filter p (range_with_len 0 (n + 1)) ≡ filter p (range_with_len 0 n) ++ cond (p n) (n ∷ []) [] = kept_more p 0 n ∙ rw (let e : 0 + n ≡ n = omega arith in e) refl in
-    ap (map f) more ∙ map-append f (filter p (range_with_len 0 n)) (cond (p n) (n ∷ []) []) ∙ ap (λ ys. map f (filter p (range_with_len 0 n)) ++ ys) (elim (p n) as (λ b. map f (cond b (n ∷ []) []) ≡ cond b (f n ∷ []) []) [ true ↦ refl | false ↦ refl ])
+    ap (map f) more ∙ map-append f (filter p (range_with_len 0 n)) (cond (p n) (n ∷ []) [])
+    ∙ ap (λ ys. map f (filter p (range_with_len 0 n)) ++ ys) (elim (p n) as (λ b. map f (cond b (n ∷ []) []) ≡ cond b (f n ∷ []) []) [ true ↦ refl | false ↦ refl ])

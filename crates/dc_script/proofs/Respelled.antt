@@ -53,7 +53,8 @@ blank_then : (a b : List ℕ) → IsTextLine a → IsTextLine b → IsTextLine (
 blank_then a b first second = joined (a ++ codes " ") b (joined a (codes " ") first blank_is_text) second
 
 -- a term's line is text
-five_are_text : (a b c d e : List ℕ) → IsTextLine a → IsTextLine b → IsTextLine c → IsTextLine d → IsTextLine e → IsTextLine ((((((((a ++ codes " ") ++ b) ++ codes " ") ++ c) ++ codes " ") ++ d) ++ codes " ") ++ e)
+five_are_text : (a b c d e : List ℕ) → IsTextLine a → IsTextLine b → IsTextLine c → IsTextLine d → IsTextLine e
+    → IsTextLine ((((((((a ++ codes " ") ++ b) ++ codes " ") ++ c) ++ codes " ") ++ d) ++ codes " ") ++ e)
 five_are_text a b c d e p q r s t =
     let two = blank_then a b p q in
     let three = blank_then ((a ++ codes " ") ++ b) c two r in
@@ -87,10 +88,12 @@ pub record Reached (version : ℕ) (turns : List Turn) : Type 0 where
   pub counted : Counted version turns terms
 
 -- one more item
-one_more_item : (version : ℕ) (turns : List Turn) (item : Item) (new : List Turn) (reached : Reached version turns) → IsItem version item → with_item reached.terms turns item ≡ Ok new → Reached version new
+one_more_item : (version : ℕ) (turns : List Turn) (item : Item) (new : List Turn) (reached : Reached version turns) → IsItem version item → with_item reached.terms turns item ≡ Ok new
+    → Reached version new
 one_more_item version turns item new reached is e =
     let so_far : Progress = record { turns = turns; terms = reached.terms } in
-    let read : with_text version so_far (item_text item) ≡ Ok (record { turns = new; terms = terms_after reached.terms item }) = ap (with_item_in so_far) (item_in-item_text version item is) ∙ ap (progressed (terms_after reached.terms item)) e in
+    let read : with_text version so_far (item_text item) ≡ Ok (record { turns = new; terms = terms_after reached.terms item }) = ap (with_item_in so_far) (item_in-item_text version item is)
+    ∙ ap (progressed (terms_after reached.terms item)) e in
     record {
       texts = reached.texts ++ item_text item ∷ [];
       are_lines = All-append IsTextLine reached.texts (item_text item ∷ []) reached.are_lines (All-cons IsTextLine (item_text item) [] (item_is_text version item is) (All-nil IsTextLine));
@@ -107,7 +110,8 @@ pub record Place (version : ℕ) (done : List Turn) : Type 0 where
   pub base : ℕ
   pub entry : (e : ℕ × List ℕ) → IsEntry e → IsItem version (line_of e)
   pub puts : (c : ℕ) (xs : List Said) (e : ℕ × List ℕ) → is_above_last e.0 xs ≡ true → with_item c (done ++ with_words xs ∷ []) (line_of e) ≡ Ok (done ++ with_words (xs ++ plain_said e ∷ []) ∷ [])
-  pub adds : (c : ℕ) (ws : List Said) (w : Said) (t : Term) → term_fault (length done) c w.terms t ≡ None → with_add c (done ++ with_words (ws ++ w ∷ []) ∷ []) t ≡ Ok (done ++ with_words (ws ++ said_with w t ∷ []) ∷ [])
+  pub adds : (c : ℕ) (ws : List Said) (w : Said) (t : Term) → term_fault (length done) c w.terms t ≡ None
+      → with_add c (done ++ with_words (ws ++ w ∷ []) ∷ []) t ≡ Ok (done ++ with_words (ws ++ said_with w t ∷ []) ∷ [])
   pub total : (xs : List Said) → script_terms (done ++ with_words xs ∷ []) ≡ base + said_terms xs
 
 said_place : (version : ℕ) (done : List Turn) → Place version done
@@ -148,9 +152,11 @@ next_term (b ∷ before) rest t up =
     let next : length front - 1 + 1 ≡ length front = omega arith in
     let left : get_or (front ++ t ∷ rest) (length front - 1) t ≡ get_or front (length front - 1) t = get_or-append front (t ∷ rest) t (length front - 1) (omega arith) in
     let here : get_or (front ++ t ∷ rest) (length front - 1 + 1) t ≡ t = ap (λ (k : ℕ). get_or (front ++ t ∷ rest) k t) next ∙ get_or-append_seam front t rest t in
-    let below : is_before (term_order (get_or (front ++ t ∷ rest) (length front - 1) t)) (term_order (get_or (front ++ t ∷ rest) (length front - 1 + 1) t)) ≡ true = up (length front - 1) t (omega (arith, length-append front (t ∷ rest))) in
+    let below : is_before (term_order (get_or (front ++ t ∷ rest) (length front - 1) t)) (term_order (get_or (front ++ t ∷ rest) (length front - 1 + 1) t)) ≡ true = up (length front - 1) t
+    (omega (arith, length-append front (t ∷ rest))) in
     let told : is_before (term_order (get_or front (length front - 1) t)) (term_order t) ≡ true =
-    ap (λ (x : Term). is_before (term_order x) (term_order t)) (sym left) ∙ ap (λ (y : Term). is_before (term_order (get_or (front ++ t ∷ rest) (length front - 1) t)) (term_order y)) (sym here) ∙ below in
+    ap (λ (x : Term). is_before (term_order x) (term_order t)) (sym left)
+    ∙ ap (λ (y : Term). is_before (term_order (get_or (front ++ t ∷ rest) (length front - 1) t)) (term_order y)) (sym here) ∙ below in
     rw some told
 
 -- an item in the middle of a list
@@ -177,7 +183,13 @@ pub record Bound (version n : ℕ) : Type 0 where
   pub most : n ≤ most_terms
 
 less_bound : (version m n : ℕ) → m ≤ n → Bound version n → Bound version m
-less_bound version m n le b = record { some_version = b.some_version; most_version = b.most_version; first = λ one. (let none : n ≡ 0 = b.first one in omega (arith, none)); most = omega (arith, b.most) }
+less_bound version m n le b = record {
+  some_version = b.some_version;
+  most_version = b.most_version;
+  first = λ one. (let none : n ≡ 0 = b.first one in omega (arith, none));
+  most = omega
+      (arith, b.most);
+}
 
 -- a word with some of its terms
 abbrev part : Said → List Term → Said
@@ -187,8 +199,10 @@ term_line_of : (r : ℕ) (t : Term) → r < 4096 → IsTerm r t → IsTermLine t
 term_line_of r t few is = record { to = is.to; some_factor = is.some_factor; factor = is.factor; station = is.station; round = omega (arith, is.no_later, few); symbol = is.symbol }
 
 -- the terms of a word, one after another
-terms_reached : (version : ℕ) (done : List Turn) (place : Place version done) (ws : List Said) (s : Said) (before rest : List Term) → length done < 4096 → IsSaid (length done) s → s.terms ≡ before ++ rest
-    → Bound version (place.base + said_terms (ws ++ s ∷ [])) → Reached version (done ++ place.with_words (ws ++ part s before ∷ []) ∷ []) → Reached version (done ++ place.with_words (ws ++ s ∷ []) ∷ [])
+terms_reached : (version : ℕ) (done : List Turn) (place : Place version done) (ws : List Said) (s : Said) (before rest : List Term) → length done < 4096 → IsSaid (length done) s
+    → s.terms ≡ before ++ rest
+    → Bound version (place.base + said_terms (ws ++ s ∷ [])) → Reached version (done ++ place.with_words (ws ++ part s before ∷ []) ∷ [])
+    → Reached version (done ++ place.with_words (ws ++ s ∷ []) ∷ [])
 terms_reached version done place ws s before [] few is split bound reached =
     let whole : part s before ≡ s = ap (part s) (sym (split ∙ append-nil before)) in
     subst (λ (w : Said). Reached version (done ++ place.with_words (ws ++ w ∷ []) ∷ [])) whole reached
@@ -197,11 +211,13 @@ terms_reached version done place ws s before (t ∷ rest) few is split bound rea
     let is_term : IsTerm (length done) t = middle (IsTerm (length done)) before rest t (subst (All (IsTerm (length done))) split is.are_terms) in
     let many : length s.terms ≡ length before + length (t ∷ rest) = ap length split ∙ length-append before (t ∷ rest) in
     let total : place.base + said_terms (ws ++ s ∷ []) ≡ place.base + (said_terms ws + length s.terms) = ap (λ (n : ℕ). place.base + n) (terms_of_last ws s) in
-    let so_far : script_terms (done ++ place.with_words (ws ++ part s before ∷ []) ∷ []) ≡ place.base + (said_terms ws + length before) = place.total (ws ++ part s before ∷ []) ∙ ap (λ (n : ℕ). place.base + n) (terms_of_last ws (part s before)) in
+    let so_far : script_terms (done ++ place.with_words (ws ++ part s before ∷ []) ∷ []) ≡ place.base + (said_terms ws + length before) = place.total (ws ++ part s before ∷ [])
+    ∙ ap (λ (n : ℕ). place.base + n) (terms_of_last ws (part s before)) in
     let room : reached.terms < most_terms = omega (arith, reached.counted.count, so_far, total, many, bound.most) in
     let none : term_fault (length done) reached.terms before t ≡ None = no_fault (length done) reached.terms before t is_term.no_later (next_term before rest t rising) room in
     let two : version ≡ 2 = second_version version (place.base + said_terms (ws ++ s ∷ [])) bound.some_version bound.most_version bound.first (omega (arith, total, many)) in
-    let more = one_more_item version (done ++ place.with_words (ws ++ part s before ∷ []) ∷ []) (AddLine t) (done ++ place.with_words (ws ++ part s (before ++ t ∷ []) ∷ []) ∷ []) reached (two, term_line_of (length done) t few is_term) (place.adds reached.terms ws (part s before) t none) in
+    let more = one_more_item version (done ++ place.with_words (ws ++ part s before ∷ []) ∷ []) (AddLine t) (done ++ place.with_words (ws ++ part s (before ++ t ∷ []) ∷ []) ∷ []) reached
+    (two, term_line_of (length done) t few is_term) (place.adds reached.terms ws (part s before) t none) in
     terms_reached version done place ws s (before ++ t ∷ []) rest few is (split ∙ sym (append_assoc before (t ∷ []) rest)) bound more
 
 -- ---- word after word
@@ -217,9 +233,12 @@ next_is (x ∷ xs) ys y up =
     let next : length front - 1 + 1 ≡ length front = omega arith in
     let rising : IsStrictlyIncreasing (stations_of front ++ y.station ∷ stations_of ys) = subst IsStrictlyIncreasing all up in
     let last : get_or (stations_of front) (length front - 1) 0 ≡ (last_said front).station = get_or-map (λ (s : Said). s.station) front (length front - 1) none 0 (omega arith) in
-    let left : get_or (stations_of front ++ y.station ∷ stations_of ys) (length front - 1) 0 ≡ get_or (stations_of front) (length front - 1) 0 = get_or-append (stations_of front) (y.station ∷ stations_of ys) 0 (length front - 1) (omega (arith, long)) in
-    let here : get_or (stations_of front ++ y.station ∷ stations_of ys) (length front - 1 + 1) 0 ≡ y.station = ap (λ (k : ℕ). get_or (stations_of front ++ y.station ∷ stations_of ys) k 0) (next ∙ sym long) ∙ get_or-append_seam (stations_of front) y.station (stations_of ys) 0 in
-    let below : get_or (stations_of front ++ y.station ∷ stations_of ys) (length front - 1) 0 < get_or (stations_of front ++ y.station ∷ stations_of ys) (length front - 1 + 1) 0 = rising (length front - 1) (omega (arith, long, length-append (stations_of front) (y.station ∷ stations_of ys))) in
+    let left : get_or (stations_of front ++ y.station ∷ stations_of ys) (length front - 1) 0 ≡ get_or (stations_of front) (length front - 1) 0 = get_or-append (stations_of front)
+    (y.station ∷ stations_of ys) 0 (length front - 1) (omega (arith, long)) in
+    let here : get_or (stations_of front ++ y.station ∷ stations_of ys) (length front - 1 + 1) 0 ≡ y.station = ap (λ (k : ℕ). get_or (stations_of front ++ y.station ∷ stations_of ys) k 0)
+    (next ∙ sym long) ∙ get_or-append_seam (stations_of front) y.station (stations_of ys) 0 in
+    let below : get_or (stations_of front ++ y.station ∷ stations_of ys) (length front - 1) 0 < get_or (stations_of front ++ y.station ∷ stations_of ys) (length front - 1 + 1) 0 = rising
+    (length front - 1) (omega (arith, long, length-append (stations_of front) (y.station ∷ stations_of ys))) in
     let some : (length front == 0) ≡ false = ne_eqb (length front) 0 (λ z. absurd (omega arith)) in
     rw (some, lt-ltb (last_said front).station y.station (omega (arith, last, left, here, below))) refl
 
@@ -227,27 +246,32 @@ said_terms-append : (xs ys : List Said) → said_terms (xs ++ ys) ≡ said_terms
 said_terms-append xs ys = sum_by-append (λ (said : Said). length said.terms) xs ys
 
 -- the words of a place, one after another
-words_reached : (version : ℕ) (done : List Turn) (place : Place version done) (xs ys : List Said) → length done < 4096 → AreSaid (length done) (xs ++ ys) → Bound version (place.base + said_terms (xs ++ ys))
+words_reached : (version : ℕ) (done : List Turn) (place : Place version done) (xs ys : List Said) → length done < 4096 → AreSaid (length done) (xs ++ ys)
+    → Bound version (place.base + said_terms (xs ++ ys))
     → Reached version (done ++ place.with_words xs ∷ []) → Reached version (done ++ place.with_words (xs ++ ys) ∷ [])
 words_reached version done place xs [] few are bound reached = rw append-nil reached
 words_reached version done place xs (y ∷ ys) few are bound reached =
     let is : IsSaid (length done) y = middle (IsSaid (length done)) xs ys y are.are_said in
     let e : ℕ × List ℕ = (y.station, y.word) in
-    let said = one_more_item version (done ++ place.with_words xs ∷ []) (place.line_of e) (done ++ place.with_words (xs ++ plain_said e ∷ []) ∷ []) reached (place.entry e (is.station, is.is_word)) (place.puts reached.terms xs e (next_is xs ys y are.stations_rise)) in
+    let said = one_more_item version (done ++ place.with_words xs ∷ []) (place.line_of e) (done ++ place.with_words (xs ++ plain_said e ∷ []) ∷ []) reached
+    (place.entry e (is.station, is.is_word)) (place.puts reached.terms xs e (next_is xs ys y are.stations_rise)) in
     let same : (xs ++ y ∷ []) ++ ys ≡ xs ++ y ∷ ys = append_assoc xs (y ∷ []) ys in
     let less : place.base + said_terms (xs ++ y ∷ []) ≤ place.base + said_terms (xs ++ y ∷ ys) = omega (arith, ap said_terms same, said_terms-append (xs ++ y ∷ []) ys) in
     let more = terms_reached version done place xs y [] y.terms few is refl (less_bound version _ _ less bound) said in
     subst (λ (ws : List Said). Reached version (done ++ place.with_words ws ∷ [])) same
-    (words_reached version done place (xs ++ y ∷ []) ys few (subst (AreSaid (length done)) (sym same) are) (subst (λ (ws : List Said). Bound version (place.base + said_terms ws)) (sym same) bound) more)
+    (words_reached version done place (xs ++ y ∷ []) ys few (subst (AreSaid (length done)) (sym same) are)
+    (subst (λ (ws : List Said). Bound version (place.base + said_terms ws)) (sym same) bound) more)
 
 -- ---- turn after turn
 
 -- a delivery, whichever
-delivery_reached : (version : ℕ) (done : List Turn) (says : List Said) (d : Delivery) → length done < 4096 → IsTurn (length done) (record { says = says; delivery = d }) → Bound version (script_terms (done ++ record { says = says; delivery = d } ∷ []))
+delivery_reached : (version : ℕ) (done : List Turn) (says : List Said) (d : Delivery) → length done < 4096 → IsTurn (length done) (record { says = says; delivery = d })
+    → Bound version (script_terms (done ++ record { says = says; delivery = d } ∷ []))
     → Reached version (done ++ record { says = says; delivery = each [] } ∷ []) → Reached version (done ++ record { says = says; delivery = d } ∷ [])
 unfolding dealt_place
 delivery_reached version done says all_sum few is bound reached =
-    one_more_item version (done ++ record { says = says; delivery = each [] } ∷ []) AllLine (done ++ record { says = says; delivery = all_sum } ∷ []) reached tt (all_at done (record { says = says; delivery = each [] }))
+    one_more_item version (done ++ record { says = says; delivery = each [] } ∷ []) AllLine (done ++ record { says = says; delivery = all_sum } ∷ []) reached tt
+    (all_at done (record { says = says; delivery = each [] }))
 delivery_reached version done says (each dealt) few is bound reached =
     let place = dealt_place version done says in
     words_reached version done place [] dealt few (is.dealt_words dealt refl) (subst (Bound version) (place.total dealt) bound) reached
@@ -280,24 +304,29 @@ begun_reached version done are few reached =
     one_more_item version done (RoundLine (length done)) (done ++ begun_turn ∷ []) reached (omega arith) begun
 
 -- one more turn
-turn_reached : (version : ℕ) (done : List Turn) (t : Turn) → AreTurns done → IsTurn (length done) t → length done < 4096 → Bound version (script_terms (done ++ t ∷ [])) → Reached version done → Reached version (done ++ t ∷ [])
+turn_reached : (version : ℕ) (done : List Turn) (t : Turn) → AreTurns done → IsTurn (length done) t → length done < 4096 → Bound version (script_terms (done ++ t ∷ []))
+    → Reached version done → Reached version (done ++ t ∷ [])
 unfolding said_place
 turn_reached version done t are is few bound reached =
     let place = said_place version done in
     let less : script_terms done + said_terms t.says ≤ script_terms (done ++ t ∷ []) = omega (arith, terms_and_one done t) in
-    delivery_reached version done t.says t.delivery few is bound (words_reached version done place [] t.says few is.said (less_bound version (script_terms done + said_terms t.says) (script_terms (done ++ t ∷ [])) less bound) (begun_reached version done are few reached))
+    delivery_reached version done t.says t.delivery few is bound
+    (words_reached version done place [] t.says few is.said (less_bound version (script_terms done + said_terms t.says) (script_terms (done ++ t ∷ [])) less bound)
+    (begun_reached version done are few reached))
 
 script_terms-append : (xs ys : List Turn) → script_terms (xs ++ ys) ≡ script_terms xs + script_terms ys
 script_terms-append xs ys = sum_by-append turn_terms xs ys
 
 -- turn after turn
-turns_reached : (version : ℕ) (done rest : List Turn) → AreTurns (done ++ rest) → length done + length rest ≤ 4096 → Bound version (script_terms (done ++ rest)) → Reached version done → Reached version (done ++ rest)
+turns_reached : (version : ℕ) (done rest : List Turn) → AreTurns (done ++ rest) → length done + length rest ≤ 4096 → Bound version (script_terms (done ++ rest)) → Reached version done
+    → Reached version (done ++ rest)
 turns_reached version done [] are few bound reached = rw append-nil reached
 turns_reached version done (t ∷ rest) are few bound reached =
     let same : (done ++ t ∷ []) ++ rest ≡ done ++ t ∷ rest = append_assoc done (t ∷ []) rest in
     let less : script_terms (done ++ t ∷ []) ≤ script_terms (done ++ t ∷ rest) = omega (arith, ap script_terms same, script_terms-append (done ++ t ∷ []) rest) in
     let more = turn_reached version done t (turns_before done (t ∷ rest) are) (turn_at done rest t are) (omega arith) (less_bound version _ _ less bound) reached in
-    subst (Reached version) same (turns_reached version (done ++ t ∷ []) rest (subst AreTurns (sym same) are) (omega (arith, length-append done (t ∷ []))) (subst (λ (ts : List Turn). Bound version (script_terms ts)) (sym same) bound) more)
+    subst (Reached version) same (turns_reached version (done ++ t ∷ []) rest (subst AreTurns (sym same) are) (omega (arith, length-append done (t ∷ [])))
+    (subst (λ (ts : List Turn). Bound version (script_terms ts)) (sym same) bound) more)
 
 script_reached : (s : Script) → IsScript s → Reached s.version s.rounds
 script_reached s is =
@@ -311,17 +340,20 @@ head_is_text : (version : ℕ) → version ≤ 2 → IsTextLine (codes "dcscript
 head_is_text version most = joined (codes "dcscript ") (decimal version) (printable_by_test (codes "dcscript ") refl) (number_is_text version (omega arith))
 
 -- a file of a head line and other lines is read by its version
-read_first : (bytes : List ℕ) (rounds : List Turn) (lines : List Line) → file_lines bytes ≡ ended (codes "dcscript 1") ∷ lines → after_head 1 lines ≡ Ok (record { version = 1; rounds = rounds }) → script_by_turns bytes ≡ Ok (record { version = 1; rounds = rounds })
+read_first : (bytes : List ℕ) (rounds : List Turn) (lines : List Line) → file_lines bytes ≡ ended (codes "dcscript 1") ∷ lines
+    → after_head 1 lines ≡ Ok (record { version = 1; rounds = rounds }) → script_by_turns bytes ≡ Ok (record { version = 1; rounds = rounds })
 unfolding script_by_turns
 read_first bytes rounds lines whole body = rw whole body
 
-read_second : (bytes : List ℕ) (rounds : List Turn) (lines : List Line) → file_lines bytes ≡ ended (codes "dcscript 2") ∷ lines → after_head 2 lines ≡ Ok (record { version = 2; rounds = rounds }) → script_by_turns bytes ≡ Ok (record { version = 2; rounds = rounds })
+read_second : (bytes : List ℕ) (rounds : List Turn) (lines : List Line) → file_lines bytes ≡ ended (codes "dcscript 2") ∷ lines
+    → after_head 2 lines ≡ Ok (record { version = 2; rounds = rounds }) → script_by_turns bytes ≡ Ok (record { version = 2; rounds = rounds })
 unfolding script_by_turns
 read_second bytes rounds lines whole body = rw whole body
 
 -- reading by a head line of this version
 abbrev Reads : ℕ → List ℕ → List Turn → List Line → Type 0
-Reads version bytes rounds lines = file_lines bytes ≡ ended (codes "dcscript " ++ decimal version) ∷ lines → after_head version lines ≡ Ok (record { version = version; rounds = rounds }) → script_by_turns bytes ≡ Ok (record { version = version; rounds = rounds })
+Reads version bytes rounds lines = file_lines bytes ≡ ended (codes "dcscript " ++ decimal version) ∷ lines → after_head version lines ≡ Ok (record { version = version; rounds = rounds })
+    → script_by_turns bytes ≡ Ok (record { version = version; rounds = rounds })
 
 read_one : (bytes : List ℕ) (rounds : List Turn) (lines : List Line) → Reads 1 bytes rounds lines
 read_one bytes rounds lines whole body = read_first bytes rounds lines (whole ∙ ap (λ (h : List ℕ). ended h ∷ lines) (sym first_head)) body
@@ -329,7 +361,8 @@ read_one bytes rounds lines whole body = read_first bytes rounds lines (whole �
 read_two : (bytes : List ℕ) (rounds : List Turn) (lines : List Line) → Reads 2 bytes rounds lines
 read_two bytes rounds lines whole body = read_second bytes rounds lines (whole ∙ ap (λ (h : List ℕ). ended h ∷ lines) (sym second_head)) body
 
-by_version : (v w : ℕ) → v ≡ w → (bytes : List ℕ) (rounds : List Turn) (lines : List Line) → file_lines bytes ≡ ended (codes "dcscript " ++ decimal v) ∷ lines → after_head v lines ≡ Ok (record { version = v; rounds = rounds }) → Reads w bytes rounds lines
+by_version : (v w : ℕ) → v ≡ w → (bytes : List ℕ) (rounds : List Turn) (lines : List Line) → file_lines bytes ≡ ended (codes "dcscript " ++ decimal v) ∷ lines
+    → after_head v lines ≡ Ok (record { version = v; rounds = rounds }) → Reads w bytes rounds lines
     → script_by_turns bytes ≡ Ok (record { version = v; rounds = rounds })
 by_version v w same bytes rounds lines whole body reads = (subst (λ (n : ℕ). Reads n bytes rounds lines) (sym same) reads) whole body
 

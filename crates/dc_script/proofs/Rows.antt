@@ -25,10 +25,15 @@ unfolding script_from_bytes
 no_rounds = refl
 
 -- three stations, one edge, station 2 in the coalition: it deals two words, then lets the sum through
-worked : script_from_bytes (ends (codes "dcscript 1") ++ ends (codes "round 0") ++ ends_in (codes "say 2 ") (codes "0") ++ ends_in (codes "to 0 ") (codes "2") ++ ends_in (codes "to 1 ") (codes "3") ++ ends (codes "round 1") ++ ends_in (codes "say 2 ") (codes "0") ++ ends (codes "all"))
+worked : script_from_bytes (ends (codes "dcscript 1") ++ ends (codes "round 0") ++ ends_in (codes "say 2 ") (codes "0") ++ ends_in (codes "to 0 ") (codes "2") ++ ends_in (codes "to 1 ")
+    (codes "3") ++ ends (codes "round 1") ++ ends_in (codes "say 2 ") (codes "0") ++ ends (codes "all"))
     ≡ Ok (record {
       version = 1;
-      rounds = record { says = plain 2 zero_word ∷ []; delivery = each (plain 0 (replicate 15 0 ++ 2 ∷ []) ∷ plain 1 (replicate 15 0 ++ 3 ∷ []) ∷ []) } ∷ record { says = plain 2 zero_word ∷ []; delivery = all_sum } ∷ [];
+      rounds = record { says = plain 2 zero_word ∷ []; delivery = each (plain 0 (replicate 15 0 ++ 2 ∷ []) ∷ plain 1 (replicate 15 0 ++ 3 ∷ []) ∷ []) } ∷ record {
+        says =
+            plain 2 zero_word ∷ [];
+        delivery = all_sum;
+      } ∷ [];
     })
 unfolding script_from_bytes word_of digits
 worked = refl

@@ -30,7 +30,8 @@ text_step : {C D F K : Type 0} (fault : K → F) (into : C → D) (rest : C → 
 text_step fault into rest other P (Ok next) d same kept goes = ap (and_then fault other) same ∙ goes next (kept next refl)
 text_step fault into rest other P (Err kind) d same kept goes = ap (and_then fault other) same
 
-line_step : {C D F K : Type 0} (fault : K → F) (not_text : K) (into : C → D) (rest : C → Result C F) (other : D → Result D F) (P : C → Type 0) (by_text : C → List ℕ → Result C K) (other_text : D → List ℕ → Result D K) (content : C) (o : Option (List ℕ))
+line_step : {C D F K : Type 0} (fault : K → F) (not_text : K) (into : C → D) (rest : C → Result C F) (other : D → Result D F) (P : C → Type 0) (by_text : C → List ℕ → Result C K)
+    (other_text : D → List ℕ → Result D K) (content : C) (o : Option (List ℕ))
     → ((text : List ℕ) → other_text (into content) text ≡ made_into into (by_text content text)) → ((text : List ℕ) (next : C) → by_text content text ≡ Ok next → P next)
     → ((next : C) → P next → other (into next) ≡ made_into into (rest next))
     → and_then fault other (with_line not_text other_text (into content) o) ≡ made_into into (and_then fault rest (with_line not_text by_text content o))
@@ -41,10 +42,12 @@ line_step fault not_text into rest other P by_text other_text content (Some text
 same_while : {C D F K : Type 0} (fault : ℕ → K → F) (not_text : K) (into : C → D) (P : C → Type 0) (by_text : C → List ℕ → Result C K) (other_text : D → List ℕ → Result D K)
     → ((content next : C) (text : List ℕ) → P content → by_text content text ≡ Ok next → P next)
     → ((content : C) (text : List ℕ) → P content → other_text (into content) text ≡ made_into into (by_text content text))
-    → (number : ℕ) (content : C) (lines : List Line) → P content → with_lines fault not_text other_text number (into content) lines ≡ made_into into (with_lines fault not_text by_text number content lines)
+    → (number : ℕ) (content : C) (lines : List Line) → P content
+    → with_lines fault not_text other_text number (into content) lines ≡ made_into into (with_lines fault not_text by_text number content lines)
 same_while fault not_text into P by_text other_text kept same number content [] is = refl
 same_while fault not_text into P by_text other_text kept same number content (l ∷ lines) is =
-    line_step (fault (reported_line number)) not_text into (λ next. with_lines fault not_text by_text (number + 1) next lines) (λ next. with_lines fault not_text other_text (number + 1) next lines) P by_text other_text content (text_in l)
+    line_step (fault (reported_line number)) not_text into (λ next. with_lines fault not_text by_text (number + 1) next lines)
+    (λ next. with_lines fault not_text other_text (number + 1) next lines) P by_text other_text content (text_in l)
     (λ text. same content text is) (λ text next e. kept content next text is e) (λ next p. same_while fault not_text into P by_text other_text kept same (number + 1) next lines p)
 
 -- ---- one more line
@@ -88,7 +91,8 @@ counted_more items AllLine = omega (arith, count_more items AllLine)
 counted_more items (ToLine e) = omega (arith, count_more items (ToLine e))
 counted_more items (AddLine t) = limited_more (term_count items) ∙ omega (arith, count_more items (AddLine t))
 
-progressed_added : (items : List Item) (x : Item) (o : Option ScriptKind) → progressed (terms_after (counted items) x) (made (turns_of_items (items ++ x ∷ [])) o) ≡ made_into progress_of (item_added items x o)
+progressed_added : (items : List Item) (x : Item) (o : Option ScriptKind)
+    → progressed (terms_after (counted items) x) (made (turns_of_items (items ++ x ∷ [])) o) ≡ made_into progress_of (item_added items x o)
 unfolding made
 progressed_added items x None = ap (λ (n : ℕ). Ok (record { turns = turns_of_items (items ++ x ∷ []); terms = n })) (counted_more items x)
 progressed_added items x (Some kind) = refl
@@ -109,7 +113,8 @@ text_in_order items (Some x) next is e = added_in_order items x (item_fault item
 -- ---- the end
 
 same_end : (version number : ℕ) (r : Result (List Item) ScriptFault)
-    → and_then (λ (f : ScriptFault). f) (closed version) (and_then (λ (f : ScriptFault). f) (λ so_far. Ok (so_far, number)) (made_into progress_of r)) ≡ and_then (λ (f : ScriptFault). f) (ended_at version number) r
+    → and_then (λ (f : ScriptFault). f) (closed version) (and_then (λ (f : ScriptFault). f) (λ so_far. Ok (so_far, number)) (made_into progress_of r)) ≡ and_then (λ (f : ScriptFault). f)
+    (ended_at version number) r
 same_end version number (Ok items) = rw (same_waiting items) refl
 same_end version number (Err fault) = refl
 

@@ -103,7 +103,8 @@ body_found version some most lines s e =
         texts = rest.texts;
         are_ended = rest.are_ended;
         is_script = subst IsScript end.1 (script_done version so_far.turns so_far.terms some most is.so is.counted end.0);
-        spelled = ◌∙◌ {c = text_file rest.texts} (ap (λ (script : Script). lines_from 0 script.rounds) (sym end.1)) (texts_spelled (with_text version) progress_lines (text_lines version) no_progress so_far rest.texts rest.made);
+        spelled = ◌∙◌ {c = text_file rest.texts} (ap (λ (script : Script). lines_from 0 script.rounds) (sym end.1))
+            (texts_spelled (with_text version) progress_lines (text_lines version) no_progress so_far rest.texts rest.made);
       },
     )
 
@@ -121,12 +122,14 @@ pub record IsHeaded (text : List ℕ) (lines : List Line) (s : Script) : Type 0 
   pub head : text ≡ codes "dcscript " ++ decimal s.version
   pub body : IsBody lines s
 
-version_found : (version : ℕ) → 1 ≤ version → version ≤ 2 → (lines : List Line) (text : List ℕ) (s : Script) → text ≡ codes "dcscript " ++ decimal version → after_head version lines ≡ Ok s → IsHeaded text lines s
+version_found : (version : ℕ) → 1 ≤ version → version ≤ 2 → (lines : List Line) (text : List ℕ) (s : Script) → text ≡ codes "dcscript " ++ decimal version → after_head version lines ≡ Ok s
+    → IsHeaded text lines s
 version_found version some most lines text s is e =
     let found = body_found version some most lines s e in
     record { head = is ∙ ap (λ (n : ℕ). codes "dcscript " ++ decimal n) found.0; body = found.1 }
 
-second_found : (lines : List Line) (text : List ℕ) (s : Script) (b : Bool) → bytes_eq text (codes "dcscript 2") ≡ b → cond b (after_head 2 lines) (Err (script_fault 1 Header)) ≡ Ok s → IsHeaded text lines s
+second_found : (lines : List Line) (text : List ℕ) (s : Script) (b : Bool) → bytes_eq text (codes "dcscript 2") ≡ b → cond b (after_head 2 lines) (Err (script_fault 1 Header)) ≡ Ok s
+    → IsHeaded text lines s
 second_found lines text s true is e = version_found 2 (omega arith) (omega arith) lines text s ((bytes_eq-Decides text (codes "dcscript 2")).0 is ∙ second_head) e
 second_found lines text s false is e = absurd cc
 
@@ -159,7 +162,8 @@ unfolding script_by_turns
 script_found bytes s e = in_lines_found bytes (file_lines bytes) s refl e
 
 -- turns that do not wait after all lines are a script
-pub lines_are_script : (version : ℕ) → 1 ≤ version → version ≤ 2 → (lines : List Line) (so_far : Progress) (number : ℕ) → progress_in version lines ≡ Ok (so_far, number) → is_waiting so_far.turns ≡ false
+pub lines_are_script : (version : ℕ) → 1 ≤ version → version ≤ 2 → (lines : List Line) (so_far : Progress) (number : ℕ) → progress_in version lines ≡ Ok (so_far, number)
+    → is_waiting so_far.turns ≡ false
     → IsScript (record { version = version; rounds = so_far.turns })
 lines_are_script version some most lines so_far number e done = (body_found version some most lines (record { version = version; rounds = so_far.turns }) (rw (e, done) refl)).1.is_script
 

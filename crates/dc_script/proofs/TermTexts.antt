@@ -29,7 +29,8 @@ cut_joined a rest figures =
     let before : (k : ℕ) → k < length a → (get_or (a ++ 32 ∷ rest) k 0 == 32) ≡ false = λ k lt.
     let figure : IsFigure (get_or a k 0) = All-get_or IsFigure a k 0 lt figures in
     rw (get_or-append a (32 ∷ rest) 0 k lt) (ne_eqb (get_or a k 0) 32 (λ e. absurd (omega (arith, e, figure.0)))) in
-    let place : position_or_len (λ (c : ℕ). c == 32) (a ++ 32 ∷ rest) ≡ length a = position_or_len_is (λ (c : ℕ). c == 32) (a ++ 32 ∷ rest) (length a) 0 (omega (arith, long)) before (λ lt. rw (get_or-append_seam a 32 rest 0) refl) in
+    let place : position_or_len (λ (c : ℕ). c == 32) (a ++ 32 ∷ rest) ≡ length a = position_or_len_is (λ (c : ℕ). c == 32) (a ++ 32 ∷ rest) (length a) 0 (omega (arith, long)) before
+    (λ lt. rw (get_or-append_seam a 32 rest 0) refl) in
     let there : nat_lt (length a) (length (a ++ 32 ∷ rest)) ≡ true = lt-ltb _ _ (omega (arith, long)) in
     let front : take (length a) (a ++ 32 ∷ rest) ≡ a = take-append_seam a (32 ∷ rest) in
     let after : drop (length a + 1) (a ++ 32 ∷ rest) ≡ rest = drop-append-add a (32 ∷ rest) 1 in
@@ -97,7 +98,8 @@ from_to t = decimal t.to ++ 32 ∷ from_factor t
 five_pieces : (a b c d e : List ℕ) → (((((((a ++ 32 ∷ []) ++ b) ++ 32 ∷ []) ++ c) ++ 32 ∷ []) ++ d) ++ 32 ∷ []) ++ e ≡ a ++ 32 ∷ (b ++ 32 ∷ (c ++ 32 ∷ (d ++ 32 ∷ e)))
 five_pieces a b c d e = simp (append_assoc)
 
-pub tail_of : (t : Term) → (((((((decimal t.to ++ codes " ") ++ symbol_text t.factor) ++ codes " ") ++ decimal t.station) ++ codes " ") ++ decimal t.round) ++ codes " ") ++ decimal t.symbol ≡ from_to t
+pub tail_of : (t : Term) → (((((((decimal t.to ++ codes " ") ++ symbol_text t.factor) ++ codes " ") ++ decimal t.station) ++ codes " ") ++ decimal t.round) ++ codes " ") ++ decimal t.symbol
+    ≡ from_to t
 tail_of t = five_pieces (decimal t.to) (symbol_text t.factor) (decimal t.station) (decimal t.round) (decimal t.symbol)
 
 -- ---- what is written is read
@@ -122,7 +124,9 @@ from_to_spelled t is =
     ap to_in (cut_joined (decimal t.to) (from_factor t) (decimal_figures t.to (omega (arith, is.to))))
     ∙ rw (number_spelled 15 t.to (omega (arith, is.to)) (omega arith)) (factor_after_spelled t is)
 
-pub term_in-spelled : (t : Term) → IsTermLine t → term_in ((((((((decimal t.to ++ codes " ") ++ symbol_text t.factor) ++ codes " ") ++ decimal t.station) ++ codes " ") ++ decimal t.round) ++ codes " ") ++ decimal t.symbol) ≡ Some t
+pub term_in-spelled : (t : Term) → IsTermLine t
+    → term_in
+    ((((((((decimal t.to ++ codes " ") ++ symbol_text t.factor) ++ codes " ") ++ decimal t.station) ++ codes " ") ++ decimal t.round) ++ codes " ") ++ decimal t.symbol) ≡ Some t
 term_in-spelled t is = ap term_in (tail_of t) ∙ from_to_spelled t is
 
 -- ---- what is read is written so

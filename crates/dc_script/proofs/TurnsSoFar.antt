@@ -71,7 +71,8 @@ few_turns turns (inl none) = rw none (omega arith)
 few_turns turns (inr ends) = rw ends.is (omega (arith, ends.few, length-append ends.done (ends.last ∷ [])))
 
 -- and a script
-pub script_done : (version : ℕ) (turns : List Turn) (c : ℕ) → 1 ≤ version → version ≤ 2 → SoFar turns → Counted version turns c → is_waiting turns ≡ false → IsScript (record { version = version; rounds = turns })
+pub script_done : (version : ℕ) (turns : List Turn) (c : ℕ) → 1 ≤ version → version ≤ 2 → SoFar turns → Counted version turns c → is_waiting turns ≡ false
+    → IsScript (record { version = version; rounds = turns })
 script_done version turns c some most so counted e = record {
   some_version = some;
   most_version = most;
@@ -99,7 +100,8 @@ other_last turns ends t new is part = inr (record { done = ends.done; last = t; 
 say_so_far : (turns : List Turn) (ends : Ends turns) (e : ℕ × List ℕ) (new : List Turn) → IsEntry e → with_say (ends.done ++ ends.last ∷ []) e ≡ Ok new → SoFar new
 say_so_far turns ends e new is h =
     let t : Turn = record { says = ends.last.says ++ plain_said e ∷ []; delivery = ends.last.delivery } in
-    let told = after_two (is_undelivered ends.last.delivery) (not (is_above_last e.0 ends.last.says)) (Order e.0) Misplaced (ends.done ++ record { says = ends.last.says ++ plain_said e ∷ []; delivery = ends.last.delivery } ∷ []) new (sym (say_at ends.done ends.last e) ∙ h) in
+    let told = after_two (is_undelivered ends.last.delivery) (not (is_above_last e.0 ends.last.says)) (Order e.0) Misplaced
+    (ends.done ++ record { says = ends.last.says ++ plain_said e ∷ []; delivery = ends.last.delivery } ∷ []) new (sym (say_at ends.done ends.last e) ∙ h) in
     other_last turns ends t new (sym told.2) (record { said = one_more_entry (length ends.done) ends.last.says e ends.is_part.said (not-false _ told.1) is; dealt_words = ends.is_part.dealt_words })
 
 sum_so_far : (turns : List Turn) (ends : Ends turns) (new : List Turn) → with_all (ends.done ++ ends.last ∷ []) ≡ Ok new → SoFar new
@@ -117,8 +119,10 @@ to_so_far : (turns : List Turn) (ends : Ends turns) (d : Delivery) (e : ℕ × L
 to_so_far turns ends all_sum e new there is h = let no : Err Misplaced ≡ Ok new = sym (to_sum ends.done ends.last.says e) ∙ h in absurd cc
 to_so_far turns ends (each dealt) e new there is h =
     let t : Turn = record { says = ends.last.says; delivery = each (dealt ++ plain_said e ∷ []) } in
-    let told = after_one (not (is_above_last e.0 dealt)) (Order e.0) (ends.done ++ record { says = ends.last.says; delivery = each (dealt ++ plain_said e ∷ []) } ∷ []) new (sym (to_at ends.done ends.last.says dealt e) ∙ h) in
-    other_last turns ends t new (sym told.1) (words_part (length ends.done) ends.last.says (dealt ++ plain_said e ∷ []) ends.is_part.said (one_more_entry (length ends.done) dealt e (ends.is_part.dealt_words dealt there) (not-false _ told.0) is))
+    let told = after_one (not (is_above_last e.0 dealt)) (Order e.0) (ends.done ++ record { says = ends.last.says; delivery = each (dealt ++ plain_said e ∷ []) } ∷ []) new
+    (sym (to_at ends.done ends.last.says dealt e) ∙ h) in
+    other_last turns ends t new (sym told.1) (words_part (length ends.done) ends.last.says (dealt ++ plain_said e ∷ []) ends.is_part.said
+    (one_more_entry (length ends.done) dealt e (ends.is_part.dealt_words dealt there) (not-false _ told.0) is))
 
 -- words of which the last one has one more term
 term_so_far : (r c : ℕ) (listed new : List Said) (term : Term) → AreSaid r listed → AddedTo r c listed new term → IsTermLine term → AreSaid r new
@@ -130,7 +134,8 @@ add_so_far c turns ends term new line h = elim (added c ends.done ends.last.says
   | inl said ↦ other_last turns ends (record { says = said.listed; delivery = each [] }) new said.is
       (words_part (length ends.done) said.listed [] (term_so_far (length ends.done) c ends.last.says said.listed term ends.is_part.said said.to line) (no_entries (length ends.done)))
   | inr dealt ↦ other_last turns ends (record { says = ends.last.says; delivery = each dealt.listed }) new dealt.is
-      (words_part (length ends.done) ends.last.says dealt.listed ends.is_part.said (term_so_far (length ends.done) c dealt.before dealt.listed term (ends.is_part.dealt_words dealt.before dealt.delivery) dealt.to line))
+      (words_part (length ends.done) ends.last.says dealt.listed ends.is_part.said
+      (term_so_far (length ends.done) c dealt.before dealt.listed term (ends.is_part.dealt_words dealt.before dealt.delivery) dealt.to line))
 ]
 
 -- one more item keeps what turns so far are
@@ -172,7 +177,8 @@ round_counts turns r new e =
 say_counts : (done : List Turn) (t : Turn) (e : ℕ × List ℕ) (new : List Turn) → with_say (done ++ t ∷ []) e ≡ Ok new → script_terms new ≡ script_terms (done ++ t ∷ []) + 0
 say_counts done t e new h =
     let u : Turn = record { says = t.says ++ plain_said e ∷ []; delivery = t.delivery } in
-    let told = after_two (is_undelivered t.delivery) (not (is_above_last e.0 t.says)) (Order e.0) Misplaced (done ++ record { says = t.says ++ plain_said e ∷ []; delivery = t.delivery } ∷ []) new (sym (say_at done t e) ∙ h) in
+    let told = after_two (is_undelivered t.delivery) (not (is_above_last e.0 t.says)) (Order e.0) Misplaced
+    (done ++ record { says = t.says ++ plain_said e ∷ []; delivery = t.delivery } ∷ []) new (sym (say_at done t e) ∙ h) in
     ap script_terms (sym told.2) ∙ more_terms done t u 0 (omega (arith, terms_of_last t.says (plain_said e)))
 
 sum_counts : (done : List Turn) (t : Turn) (new : List Turn) → with_all (done ++ t ∷ []) ≡ Ok new → script_terms new ≡ script_terms (done ++ t ∷ []) + 0
@@ -187,7 +193,8 @@ to_counts : (done : List Turn) (says : List Said) (d : Delivery) (e : ℕ × Lis
 to_counts done says all_sum e new h = let no : Err Misplaced ≡ Ok new = sym (to_sum done says e) ∙ h in absurd cc
 to_counts done says (each dealt) e new h =
     let told = after_one (not (is_above_last e.0 dealt)) (Order e.0) (done ++ record { says = says; delivery = each (dealt ++ plain_said e ∷ []) } ∷ []) new (sym (to_at done says dealt e) ∙ h) in
-    ap script_terms (sym told.1) ∙ more_terms done (record { says = says; delivery = each dealt }) (record { says = says; delivery = each (dealt ++ plain_said e ∷ []) }) 0 (omega (arith, terms_of_last dealt (plain_said e)))
+    ap script_terms (sym told.1) ∙ more_terms done (record { says = says; delivery = each dealt }) (record { says = says; delivery = each (dealt ++ plain_said e ∷ []) }) 0
+    (omega (arith, terms_of_last dealt (plain_said e)))
 
 added_terms : (r c : ℕ) (listed new : List Said) (term : Term) → AddedTo r c listed new term → said_terms new ≡ said_terms listed + 1
 added_terms r c listed new term to =
@@ -206,13 +213,15 @@ add_counts c done says d term new h = elim (added c done says d term new h) [
   | inl said ↦ (
       let none : said_terms (delivered_words d) ≡ 0 = ap (λ (dd : Delivery). said_terms (delivered_words dd)) said.delivery in
       record {
-        more = ap script_terms said.is ∙ more_terms done (record { says = says; delivery = d }) (record { says = said.listed; delivery = each [] }) 1 (omega (arith, none, added_terms (length done) c says said.listed term said.to));
+        more = ap script_terms said.is ∙ more_terms done (record { says = says; delivery = d }) (record { says = said.listed; delivery = each [] }) 1
+            (omega (arith, none, added_terms (length done) c says said.listed term said.to));
         room = (may_follow (length done) c said.to.w.terms term said.to.no_fault).room;
       })
   | inr dealt ↦ (
       let before : said_terms (delivered_words d) ≡ said_terms dealt.before = ap (λ (dd : Delivery). said_terms (delivered_words dd)) dealt.delivery in
       record {
-        more = ap script_terms dealt.is ∙ more_terms done (record { says = says; delivery = d }) (record { says = says; delivery = each dealt.listed }) 1 (omega (arith, before, added_terms (length done) c dealt.before dealt.listed term dealt.to));
+        more = ap script_terms dealt.is ∙ more_terms done (record { says = says; delivery = d }) (record { says = says; delivery = each dealt.listed }) 1
+            (omega (arith, before, added_terms (length done) c dealt.before dealt.listed term dealt.to));
         room = (may_follow (length done) c dealt.to.w.terms term dealt.to.no_fault).room;
       })
 ]
@@ -224,7 +233,8 @@ counts_term version turns new c term two counted one =
     rw next (record { count = omega (arith, one.more, counted.count); most = omega (arith, one.room); first = λ first. absurd (omega (arith, two, first)) })
 
 -- one more item keeps the count
-pub item_counts : (version c : ℕ) (turns : List Turn) (item : Item) (new : List Turn) → Counted version turns c → IsItem version item → with_item c turns item ≡ Ok new → Counted version new (terms_after c item)
+pub item_counts : (version c : ℕ) (turns : List Turn) (item : Item) (new : List Turn) → Counted version turns c → IsItem version item → with_item c turns item ≡ Ok new
+    → Counted version new (terms_after c item)
 item_counts version c turns (RoundLine r) new counted is h = counts_on version turns new c counted (round_counts turns r new h)
 item_counts version c turns (SayLine e) new counted is h = elim (last_or_none turns) [
   | inl none ↦ (let no : with_say [] e ≡ Ok new = rw none at h in absurd cc)
@@ -240,5 +250,6 @@ item_counts version c turns (ToLine e) new counted is h = elim (last_or_none tur
 ]
 item_counts version c turns (AddLine term) new counted is h = elim (last_or_none turns) [
   | inl none ↦ (let no : with_add c [] term ≡ Ok new = rw none at h in absurd cc)
-  | inr some ↦ counts_term version turns new c term is.0 counted (subst (λ (ts : List Turn). CountsTerm c ts new) (sym some.is) (add_counts c some.done some.last.says some.last.delivery term new (rw some.is at h)))
+  | inr some ↦ counts_term version turns new c term is.0 counted
+      (subst (λ (ts : List Turn). CountsTerm c ts new) (sym some.is) (add_counts c some.done some.last.says some.last.delivery term new (rw some.is at h)))
 ]

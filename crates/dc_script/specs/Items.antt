@@ -22,7 +22,8 @@ station_with_word (Some i) (Ok word) = if nat_lt 65535 i then None else Some (i,
 abbrev pub entry_in : List ℕ → Option (ℕ × List ℕ)
 entry_in text =
     if nat_lt (length text) 81 then None
-    else if slice_index text (length text - 81) == 32 then station_with_word (number_in (take (length text - 81) text)) (word_of_text (drop (length text - 81 + 1) text))
+    else if slice_index text (length text - 81) == 32 then
+    station_with_word (number_in (take (length text - 81) text)) (word_of_text (drop (length text - 81 + 1) text))
     else None
 
 -- what stands before the first blank of a text and what stands after it
@@ -91,7 +92,8 @@ abbrev pub to_in : Option (List ℕ × List ℕ) → Option Term
 to_in None = None
 to_in (Some p) = term_with_to (number_up_to 15 p.0) p.1
 
--- a number up to 15, five digits, a number of a station, a number up to 4095 and a number up to 15, with a blank between two
+-- a number up to 15, five digits, a number of a station, a number up to 4095 and a number up to 15,
+-- with a blank between two
 abbrev pub term_in : List ℕ → Option Term
 term_in text = to_in (cut text)
 
@@ -101,7 +103,8 @@ item_in version text =
     if starts_with nat_eq text (codes "say ") then option_map SayLine (entry_in (drop 4 text))
     else if starts_with nat_eq text (codes "to ") then option_map ToLine (entry_in (drop 3 text))
     else if starts_with nat_eq text (codes "round ") then option_map RoundLine (number_in (drop 6 text))
-    else if starts_with nat_eq text (codes "add ") then (if version == 2 then option_map AddLine (term_in (drop 4 text)) else None)
+    else if starts_with nat_eq text (codes "add ") then
+    (if version == 2 then option_map AddLine (term_in (drop 4 text)) else None)
     else if bytes_eq text (codes "all") then Some AllLine
     else None
 

@@ -108,21 +108,24 @@ item_fault before (RoundLine r) =
     else if not (r == round_count before) then Some (Round r (reported_count (round_count before)))
     else if nat_le most_words (round_count before) then Some TooMany
     else None
-item_fault before (SayLine e) = if not (lacks_delivery before) then Some Misplaced else order_fault e.0 (said (since_round before))
+item_fault before (SayLine e) =
+    if not (lacks_delivery before) then Some Misplaced else order_fault e.0 (said (since_round before))
 item_fault before AllLine = if not (lacks_delivery before) then Some Misplaced else None
 item_fault before (ToLine e) =
     if round_count before == 0 || has_all (since_round before) then Some Misplaced
     else order_fault e.0 (dealt (since_round before))
 item_fault before (AddLine term) =
     if not (may_be_added_to (last_item before)) then Some Misplaced
-    else if nat_lt (round_count before - 1) term.round then Some (Late term.round (reported_round (round_count before - 1)))
+    else if nat_lt (round_count before - 1) term.round then
+    Some (Late term.round (reported_round (round_count before - 1)))
     else if not (is_above_before term (last_item before)) then Some Unordered
     else if nat_le most_terms (term_count before) then Some Terms
     else None
 
 -- the turn of a round's lines
 abbrev pub turn_of_items : List Item → Turn
-turn_of_items items = record { says = said items; delivery = if has_all items then all_sum else each (dealt items) }
+turn_of_items items =
+    record { says = said items; delivery = if has_all items then all_sum else each (dealt items) }
 
 -- the turns of all rounds
 abbrev pub turns_of_items : List Item → List Turn

@@ -43,7 +43,8 @@ lines_after_head version lines = and_then (λ fault. fault) (ended_at version (r
     (with_lines script_fault NotText (items_with_line version) 2 [] lines)
 
 -- the first line is tested, then a body of its version is read
-abbrev pub headed : (ℕ → List Line → Result Script ScriptFault) → Option (List ℕ) → List Line → Result Script ScriptFault
+abbrev pub headed : (ℕ → List Line → Result Script ScriptFault) → Option (List ℕ) → List Line
+    → Result Script ScriptFault
 headed body None lines = Err (script_fault 1 NotText)
 headed body (Some text) lines =
     if bytes_eq text (codes "dcscript 1") then body 1 lines

@@ -34,7 +34,8 @@ progress_in version lines = and_then (λ fault. fault) (λ so_far. Ok (so_far, r
 -- the script, where the last turn has a delivery
 abbrev pub closed : ℕ → Progress × ℕ → Result Script ScriptFault
 closed version p =
-    if is_waiting p.0.turns then Err (script_fault p.1 Missing) else Ok (record { version = version; rounds = p.0.turns })
+    if is_waiting p.0.turns then Err (script_fault p.1 Missing)
+    else Ok (record { version = version; rounds = p.0.turns })
 
 -- the lines after the first are read, then the end is tested
 abbrev pub after_head : ℕ → List Line → Result Script ScriptFault

@@ -1,4 +1,5 @@
--- The turns that the lines so far make, and one line more. A turn has dealt no word until its delivery is known.
+-- The turns that the lines so far make, and one line more. A turn has dealt no word until its
+-- delivery is known.
 use Rattle.std.specs.Prelude.{ℕ, ◌+◌, ◌-◌, ◌^◌, ◌==◌, min, Bool, false, not, ◌&&◌, ◌||◌, List, [], ◌∷◌, ◌++◌, length, take, slice_index_or, nat_le, nat_lt, if◌then◌else◌, Option, Some, None, Result, Ok, Err}
 use Rattle.dc_spec.specs.Limits.{most_words, most_terms}
 use Rattle.dc_spec.specs.Scripts.{Term, Said, Delivery, all_sum, each, Turn}
@@ -64,11 +65,14 @@ with_said turns turn e =
 
 -- one more line of a word said
 abbrev pub with_say : List Turn → ℕ × List ℕ → Result (List Turn) ScriptKind
-with_say turns e = if is_waiting turns then with_said turns (last_turn turns) e else Err Misplaced
+with_say turns e =
+    if is_waiting turns then with_said turns (last_turn turns) e else Err Misplaced
 
 -- all receive the sum
 abbrev pub with_all : List Turn → Result (List Turn) ScriptKind
-with_all turns = if is_waiting turns then Ok (with_last turns (record (last_turn turns) { delivery = all_sum })) else Err Misplaced
+with_all turns =
+    if is_waiting turns then Ok (with_last turns (record (last_turn turns) { delivery = all_sum }))
+    else Err Misplaced
 
 -- one more word dealt
 abbrev pub with_dealt : List Turn → Turn → Delivery → ℕ × List ℕ → Result (List Turn) ScriptKind
@@ -79,7 +83,9 @@ with_dealt turns turn (each dealt) e =
 
 -- one more line of a word dealt
 abbrev pub with_to : List Turn → ℕ × List ℕ → Result (List Turn) ScriptKind
-with_to turns e = if length turns == 0 then Err Misplaced else with_dealt turns (last_turn turns) (last_turn turns).delivery e
+with_to turns e =
+    if length turns == 0 then Err Misplaced
+    else with_dealt turns (last_turn turns) (last_turn turns).delivery e
 
 -- whether a term is greater than the last of a list
 abbrev pub is_above_last_term : Term → List Term → Bool
@@ -105,7 +111,8 @@ term_put listed term None = Ok (take (length listed - 1) listed ++ said_with (la
 
 abbrev pub with_term : ℕ → ℕ → List Said → Term → Result (List Said) ScriptKind
 with_term round count listed term =
-    if length listed == 0 then Err Misplaced else term_put listed term (term_fault round count (last_said listed).terms term)
+    if length listed == 0 then Err Misplaced
+    else term_put listed term (term_fault round count (last_said listed).terms term)
 
 -- the turns of which the last one has other words said, or other words dealt, where there is no fault
 abbrev pub with_says : List Turn → Turn → Result (List Said) ScriptKind → Result (List Turn) ScriptKind
@@ -126,7 +133,8 @@ with_added count turns turn (each dealt) term =
 -- one more line of a term
 abbrev pub with_add : ℕ → List Turn → Term → Result (List Turn) ScriptKind
 with_add count turns term =
-    if length turns == 0 then Err Misplaced else with_added count turns (last_turn turns) (last_turn turns).delivery term
+    if length turns == 0 then Err Misplaced
+    else with_added count turns (last_turn turns) (last_turn turns).delivery term
 
 -- one more line, after so many terms
 abbrev pub with_item : ℕ → List Turn → Item → Result (List Turn) ScriptKind

@@ -1,5 +1,6 @@
 -- What contracts see of a receiver, a sender and a station.
 use Rattle.std.specs.Prelude.{◌≡◌, ℕ, ◌≤◌}
+use Rattle.dc_spec.specs.Limits.{most_words}
 use Rattle.dc_spec.specs.Entries.{Stream}
 use Rattle.dc_station.specs.declared.reception.Reception.{Reception}
 use Rattle.dc_station.specs.declared.reception.Effect.{Effect}
@@ -17,7 +18,7 @@ pub record ReceiverState : Type 0 where
 -- one more word can always be taken, and the log has room for all words
 pub record IsReceiver (taken : ℕ) (total : ℕ) (kept : Reception) (effect : Effect) : Type 0 where
   pub within : taken ≤ total
-  pub few : total ≤ 4096
+  pub few : total ≤ most_words
   pub ready : IsReady kept
   pub index : index_of kept.phase ≤ taken
   pub room : kept.log.room ≡ total

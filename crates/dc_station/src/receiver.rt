@@ -2,6 +2,7 @@
 //! stations that receive the same words can share one receiver.
 
 ghost use Rattle.std.specs.Prelude.{◌≡◌, ℕ, ◌+◌, ◌<◌, ◌≤◌, List, [], ◌∷◌, ◌++◌, IfOk};
+ghost use Rattle.dc_spec.specs.Limits.{most_words};
 ghost use Rattle.dc_station_rules.specs.Cycles.{place_of};
 ghost use Rattle.dc_station_rules.specs.Stations.{log_of};
 ghost use Rattle.dc_station.specs.Receiving.{HasMessage, IsReady, phase_at};
@@ -37,7 +38,7 @@ impl Receiver {
     /// A receiver that has received no words, in a session of 1 to 4096 words.
     pub fn start(alloc: Global, words: u16) -> Result<Receiver, NoMemory>
         requires some { 1 ≤ words }
-        requires most { words ≤ 4096 }
+        requires most { words ≤ most_words }
         ensures { IfOk result (λ receiver. ReceiverStandsFor receiver words []) }
     {
         let kept = Reception::start(alloc, words)?;

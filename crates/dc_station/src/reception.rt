@@ -1,6 +1,7 @@
 //! What is kept of received words.
 
 ghost use Rattle.std.specs.Prelude.{◌≡◌, ℕ, ◌+◌, ◌<◌, ◌≤◌, [], ◌∷◌, ◌++◌, List, IfOk, length, map};
+ghost use Rattle.dc_spec.specs.Limits.{most_words};
 ghost use Rattle.dc_station_rules.specs.Stations.{leaf_entry};
 ghost use Rattle.dc_reserve.specs.Phases.{IsGoing};
 ghost use Rattle.dc_reserve.specs.StandsFor.{StandsFor as BurstStandsFor};
@@ -64,7 +65,7 @@ impl Reception {
     /// Takes a word. Takes no memory.
     pub(crate) fn take(&mut self, w: &Word) -> Effect
         requires ready { IsReady self.old }
-        requires index { index_of self.old.phase < 4096 }
+        requires index { index_of self.old.phase < most_words }
         ensures { ReceivesWord self.old w.now self.new result }
     {
         match self.phase {
@@ -95,7 +96,7 @@ impl Reception {
     fn take_in_burst(&mut self, field: u8, index: u16, w: &Word) -> Effect
         requires phase { self.old.phase ≡ Phase.Burst field index }
         requires ready { IsReady self.old }
-        requires index { index < 4096 }
+        requires index { index < most_words }
         ensures { ReceivesWord self.old w.now self.new result }
     {
         match take_next(&mut self.burst, index, w) {

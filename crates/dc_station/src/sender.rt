@@ -2,6 +2,7 @@
 //! given it, so that a stream that is shared or borrowed is not copied.
 
 ghost use Rattle.std.specs.Prelude.{◌≡◌, ℕ, ◌+◌, ◌≤◌, List, [], ◌∷◌, ◌++◌, IfOk};
+ghost use Rattle.dc_spec.specs.Limits.{most_words};
 ghost use Rattle.dc_spec.specs.Entries.{Stream as stream_record};
 ghost use Rattle.dc_station_rules.specs.Stations.{pending_counts, plain_word, sent_of};
 ghost use Rattle.dc_station.specs.Receiving.{HasMessage};
@@ -44,7 +45,7 @@ impl Sender {
     /// A sender of any stream, of which nothing was sent, in a session of 1 to 4096 words.
     pub fn start(alloc: Global, words: u16) -> Result<Sender, NoMemory>
         requires some { 1 ≤ words }
-        requires most { words ≤ 4096 }
+        requires most { words ≤ most_words }
         ensures own { IfOk result (λ sender. (stream : stream_record) → IsSenderOf sender stream) }
         ensures stands { IfOk result (λ sender. (stream : stream_record) →
             SenderStandsFor sender stream words []) }

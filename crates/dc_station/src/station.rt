@@ -1,6 +1,7 @@
 //! A station: it gives a word, receives the superposed word, and so on to the end of the session.
 
 ghost use Rattle.std.specs.Prelude.{◌≡◌, ℕ, ◌+◌, ◌<◌, ◌≤◌, List, [], ◌∷◌, ◌++◌, IfOk};
+ghost use Rattle.dc_spec.specs.Limits.{most_words};
 ghost use Rattle.dc_spec.specs.Entries.{Stream as stream_record};
 ghost use Rattle.dc_station_rules.specs.Cycles.{place_of};
 ghost use Rattle.dc_station_rules.specs.Stations.{log_of, pending_counts, plain_word, sent_of};
@@ -45,7 +46,7 @@ impl Station {
     /// A station with this stream, in a session of 1 to 4096 words. When out of memory, the stream is dropped.
     pub fn start(alloc: Global, stream: Stream, words: u16) -> Result<Station, NoMemory>
         requires some { 1 ≤ words }
-        requires most { words ≤ 4096 }
+        requires most { words ≤ most_words }
         ensures { IfOk result (λ station. StandsFor station stream words []) }
     {
         let receiver = Receiver::start(alloc, words)?;

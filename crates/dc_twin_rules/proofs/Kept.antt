@@ -132,6 +132,11 @@ stays g u (v ∷ vs) w member walks =
     let honest = not-true _ (and_parts (has_edge g.edges u v) (not (is_among g.coalition u || is_among g.coalition v)) walks.0).1 in
     absurd (true≢false (sym (ap (λ (b : Bool). b || is_among g.coalition v) member) ∙ honest))
 
+-- an honest station has a stream
+streamed : (net : Net) → IsNet net → (i : ℕ) → i < net.stations → is_among net.coalition i ≡ false
+    → is_some (slice_index_or net.streams i None) ≡ true
+streamed net is i low honest = has_stream net is.agrees i low ∙ ap not honest
+
 -- a station has a stream in the twin where it has one in the net
 place-kept : (net : Net) (p : List ℕ) → IsNet net → Admits net p → (i : ℕ) → i < net.stations → is_some (slice_index_or (twin net p).streams i None) ≡ is_some (slice_index_or net.streams i None)
 place-kept net p is admits i low =
@@ -146,7 +151,7 @@ place-kept net p is admits i low =
           moves ∙ ap (λ (z : ℕ). is_some (slice_index_or net.streams z None)) back)
       | inr honest ↦ (let joined = joined-sym g k (slice_index p k) (admits.joined k below) in
           let walk = subst (λ (z : ℕ). AreJoined g z k) (there-back net.stations p admits.permutation i low) joined in
-          moves ∙ has_stream net is.agrees k below (walk-honest g i walk.0 k honest walk.1) ∙ sym (has_stream net is.agrees i low honest))
+          moves ∙ streamed net is k below (walk-honest g i walk.0 k honest walk.1) ∙ sym (streamed net is i low honest))
     ]
 
 -- the tests of a net's parts, from those that could differ in a twin

@@ -12,7 +12,7 @@ use std::process::ExitCode;
 use std::{env, io};
 
 #[cfg(test)]
-mod keygen_tests;
+mod key_file_tests;
 #[cfg(test)]
 mod tests;
 

@@ -1,5 +1,5 @@
 use Rattle.std.proofs.Common.{rules}
-use Rattle.dc_cli.proofs.PutLemmas.{Puts-then, Puts-stops}
+use Rattle.dc_edge.proofs.PutLemmas.{Puts-then, Puts-stops}
 use Rattle.dc_cli.proofs.key_fault.put_symbol.Goals as goal
 
 pub returns-in_err-put_two_numbers : goal.returns-in_err-put_two_numbers

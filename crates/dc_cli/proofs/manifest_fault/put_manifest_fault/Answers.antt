@@ -1,5 +1,5 @@
 use Rattle.std.proofs.Common.{rules}
-use Rattle.dc_cli.proofs.PutLemmas.{Puts-then, Puts-stops}
+use Rattle.dc_edge.proofs.PutLemmas.{Puts-then, Puts-stops}
 use Rattle.dc_cli.proofs.manifest_fault.put_manifest_fault.Goals as goal
 
 pub returns-in-Unknown : goal.returns-in-Unknown

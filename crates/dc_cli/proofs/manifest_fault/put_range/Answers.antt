@@ -1,7 +1,7 @@
 use Rattle.std.proofs.Common.{rules}
 use Rattle.std.specs.Int.{w64}
 use Rattle.std.proofs.lemmas.Int.{to_z-of_z}
-use Rattle.dc_cli.proofs.PutLemmas.{Puts-then, Puts-stops}
+use Rattle.dc_edge.proofs.PutLemmas.{Puts-then, Puts-stops}
 use Rattle.dc_cli.proofs.manifest_fault.put_range.Goals as goal
 
 pub returns-in_err-put_before_name : goal.returns-in_err-put_before_name

@@ -1,5 +1,5 @@
 use Rattle.std.proofs.Common.{rules}
-use Rattle.dc_cli.proofs.PutLemmas.{Puts-then, Puts-stops}
+use Rattle.dc_edge.proofs.PutLemmas.{Puts-then, Puts-stops}
 use Rattle.dc_cli.proofs.pieces.put_two_numbers.Goals as goal
 
 pub returns-in_err-put_number : goal.returns-in_err-put_number

@@ -1,4 +1,4 @@
-use Rattle.dc_cli.proofs.PromiseLemmas.{RefusesOtherWords-run, PrintsSums-run, Completes-run, AsksInOrder-run, KeepsFiles-run, PrintsOnlyWhenDone-run, MissesTheAbsent-run, RefusesTheLong-run, RefusesTheMalformed-run, TellsTheFault-run, TellsTheLast-run, HasCauses-run, WritesKeys-run, RunsKeygen-run}
+use Rattle.dc_cli.proofs.PromiseLemmas.{RefusesOtherWords-run, PrintsSums-run, Completes-run, AsksInOrder-run, KeepsFiles-run, PrintsOnlyWhenDone-run, MissesTheAbsent-run, RefusesTheLong-run, RefusesTheMalformed-run, TellsTheFault-run, TellsTheLast-run, HasCauses-run, WritesKeys-run, WritesSeeds-run, WritesPads-run, MakesFiles-run}
 use Rattle.dc_cli.proofs.top.dcnet.Goals as goal
 
 pub returns-clause-words : goal.returns-clause-words
@@ -40,5 +40,11 @@ returns-clause-last g c = TellsTheLast-run _ c.run-outcome.ensures
 pub returns-clause-keys : goal.returns-clause-keys
 returns-clause-keys g c = WritesKeys-run _ c.run-outcome.ensures
 
-pub returns-clause-keygen : goal.returns-clause-keygen
-returns-clause-keygen g c = RunsKeygen-run _ c.run-outcome.ensures
+pub returns-clause-seeds : goal.returns-clause-seeds
+returns-clause-seeds g c = WritesSeeds-run _ c.run-outcome.ensures
+
+pub returns-clause-pads : goal.returns-clause-pads
+returns-clause-pads g c = WritesPads-run _ c.run-outcome.ensures
+
+pub returns-clause-makes : goal.returns-clause-makes
+returns-clause-makes g c = MakesFiles-run _ c.run-outcome.ensures

@@ -1,15 +1,17 @@
-use Rattle.std.proofs.Common.{arith, subst}
-use Rattle.std.proofs.lemmas.List.Elements.{All-more}
-use Rattle.dc_spec.specs.Words.{IsWord}
-use Rattle.dc_keys.proofs.KeySums.{word_more, sixteen_more}
+use Rattle.std.proofs.Common.{◌≡◌, ◌-◌, length, take, drop, refl, arith}
+use Rattle.std.proofs.lemmas.List.{length-take, length-drop}
+use Rattle.dc_conv.proofs.Groups.{words_more, group_more}
 use Rattle.dc_conv.proofs.adding.add_words.Goals as goal
 
-pub loop-t-preserved : goal.loop-t-preserved
-loop-t-preserved c =
-    let w = c.index-words-t.result in
+pub loop-done-preserved : goal.loop-done-preserved
+loop-done-preserved c =
+    let words = c.args.words.now in
+    let long : length (take (c.min-end.result - c.loop-done.done) (drop c.loop-done.done c.args.words.now)) ≡ c.min-end.result - c.loop-done.done =
+    omega (arith, length-take (c.min-end.result - c.loop-done.done) (drop c.loop-done.done c.args.words.now), length-drop c.loop-done.done c.args.words.now) in
     record {
-      are_words = All-more IsWord c.args.words.now c.loop-t.t w c.loop-t-test.true c.loop-t.invariant.are_words (subst IsWord c.index-words-t.is c.add_word.ensures.word);
-      added = λ i lt. word_more c.args.second.now c.args.words.now w c.loop-t.t i _ _ _ _ (c.add_word.ensures.added i (omega arith)) (c.loop-t.invariant.added i (omega arith)) c.loop-t-test.true (omega arith) c.index-words-t.is c.add_word.ensures.word.sixteen c.loop-t.invariant.sixteen;
-      grown = λ i. omega (arith, c.add_word.ensures.grown i, c.loop-t.invariant.grown i);
-      sixteen = sixteen_more c.args.words.now w c.loop-t.t c.loop-t-test.true c.index-words-t.is c.add_word.ensures.word.sixteen c.loop-t.invariant.sixteen;
+      within = omega arith;
+      are_words = words_more words c.loop-done.done c.min-end.result _ (omega arith) c.loop-done.invariant.are_words c.add_group.ensures.words;
+      added = λ i lt. group_more c.args.second.now words _ c.loop-done.done c.min-end.result i _ _ _ _ _ _ refl long (omega arith) (omega arith) (omega arith)
+          c.loop-done.invariant.are_words (omega arith) (c.add_group.ensures.added i (omega arith)) (c.loop-done.invariant.added i (omega arith));
+      grown = λ i. omega (arith, c.add_group.ensures.grown i, c.loop-done.invariant.grown i, long);
     }

@@ -1,20 +1,24 @@
-use Rattle.std.proofs.Common.{ℕ, ◌-◌, ◌<◌, ◌≢◌, length, get_or, arith, get_or-set_other, inl, inr}
-use Rattle.std.proofs.Math.ListN.{length-set}
-use Rattle.std.proofs.lemmas.Bool.{cases_lt}
-use Rattle.dc_conv.proofs.Loops.{set_more}
+use Rattle.std.proofs.Common.{arith, subst, refl}
+use Rattle.std.proofs.lemmas.List.Elements.{All-more}
+use Rattle.dc_spec.specs.Words.{IsWord}
+use Rattle.dc_keys.proofs.KeySums.{sixteen_more}
+use Rattle.dc_conv.proofs.Loops.{zeros_small, word_turned}
+use Rattle.dc_conv.proofs.Pieces.{piece_small}
 use Rattle.dc_conv.proofs.adding.turned.Goals as goal
 
-pub loop-l-preserved : goal.loop-l-preserved
-loop-l-preserved c =
-    let within : c.loop-l.l < length c.loop-l.factors = let n = c.loop-l.invariant.sixteen in omega arith in
+pub loop-t-preserved : goal.loop-t-preserved
+loop-t-preserved c =
+    let w = c.index-words-t.result in
+    let is = c.index-words-t.is in
+    let all = c.loop-t.invariant in
+    let room = c.loop-t-test.array_long in
     record {
-      sixteen = omega (arith, length-set {A = ℕ});
-      so_far = set_more (λ k. get_or c.args.numbers.now (15 - k) 0) c.loop-l.factors c.loop-l.l _ within c.loop-l.invariant.so_far c.from.ensures;
-      rest = λ k le. let other : k ≢ c.loop-l.l = omega arith in rw get_or-set_other (c.loop-l.invariant.rest k (omega arith));
+      are_words = All-more IsWord c.args.words.now c.loop-t.t w c.loop-t-test.true all.are_words (subst IsWord is c.turn.ensures.word);
+      sixteen = sixteen_more c.args.words.now w c.loop-t.t c.loop-t-test.true is c.turn.ensures.word.sixteen all.sixteen;
+      value = word_turned c.args.words.now w c.loop-t.factors _ c.loop-t.t _ _ c.loop-t-test.true is c.turn.ensures.word.sixteen all.sixteen room c.requires.few
+          (omega arith) (omega arith) (omega arith) c.turn.ensures.value all.value;
+      small = piece_small c.loop-t.factors _ _ _ _ refl (omega arith) (omega arith) 65536 all.small c.turn.ensures.small;
     }
 
-pub returns-clause-small : goal.returns-clause-small
-returns-clause-small c = λ l. elim (cases_lt l 16) [
-  | inl lt ↦ let e = c.loop-l.invariant.so_far l (omega arith) in let s = c.requires.small (15 - l) in omega arith
-  | inr le ↦ let e = c.loop-l.invariant.rest l (omega arith) in omega arith
-]
+pub loop-t-init : goal.loop-t-init
+loop-t-init c = record { are_words = λ k d lt. omega arith; sixteen = refl; value = λ k le lt. omega arith; small = zeros_small 512 }

@@ -10,7 +10,8 @@ pub collect-requires-clause-ready : goal.collect-requires-clause-ready
 collect-requires-clause-ready g c κs within =
     let ends = c.into_par_iter.ensures in
     let end = ends.1 ∙ ap (λ (w : ℕ). length c.args.pairs.now * (2 * w)) c.from.ensures in
-    let inside = nat_range-All (λ i. (c.args.words ≤ 4096) × (i < length c.args.pairs.now * (2 * c.args.words))) 0 (length c.args.pairs.now * (2 * c.args.words)) (λ i low high. (c.requires.most_words, high)) in
+    let inside = nat_range-All (λ i. (c.args.words ≤ 4096) × (i < length c.args.pairs.now * (2 * c.args.words))) 0 (length c.args.pairs.now * (2 * c.args.words)) (λ i low high.
+    (c.requires.most_words, high)) in
     rw (c.map.ensures.base, c.map.ensures.f, ends.0, end) (λ k d lt. (inside k d lt, λ y p. tt))
 
 pub returns : goal.returns

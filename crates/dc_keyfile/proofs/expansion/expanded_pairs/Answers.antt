@@ -11,4 +11,5 @@ pub expanded_pair-requires-clause-pieces : goal.expanded_pair-requires-clause-pi
 expanded_pair-requires-clause-pieces c =
     c.pieces_at-own.ensures ∙ ap (λ (ps : List (List ℕ)). take (2 * c.args.words) (drop (2 * c.args.words * c.loop-place.place) ps)) c.requires.pieces
     ∙ pieces_there c.args.seeded.now c.args.words c.loop-place.place (omega arith)
-    ∙ ap (pieces_of c.args.words) (sym (get_or_read_under c.args.seeded.now c.loop-place.place (length c.args.seeded.now) c.index-seeded-place.result no_seed c.index-seeded-place.is c.loop-place-test.true refl))
+    ∙ ap (pieces_of c.args.words) (sym (get_or_read_under c.args.seeded.now c.loop-place.place
+    (length c.args.seeded.now) c.index-seeded-place.result no_seed c.index-seeded-place.is c.loop-place-test.true refl))

@@ -5,7 +5,8 @@ use Rattle.dc_keyfile.proofs.seed_reading.read_pairs.Goals as goal
 
 pub returns-in_err-read_pair : goal.returns-in_err-read_pair
 returns-in_err-read_pair c =
-    refusal_is_first (seed_pair_of c.args.b.now c.args.stations) c.args.count c.loop-place.place _ _ c.from_residual-in_err-read_pair.result (omega arith) c.loop-place.invariant c.in_err-read_pair.ensures c.from_residual-in_err-read_pair.ensures.1
+    refusal_is_first (seed_pair_of c.args.b.now c.args.stations) c.args.count c.loop-place.place _ _ c.from_residual-in_err-read_pair.result
+    (omega arith) c.loop-place.invariant c.in_err-read_pair.ensures c.from_residual-in_err-read_pair.ensures.1
 
 pub loop-place-preserved : goal.loop-place-preserved
 loop-place-preserved c =

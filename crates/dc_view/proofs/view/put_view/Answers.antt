@@ -1,6 +1,5 @@
-use Rattle.std.proofs.Common.{◌≡◌, ◌≤◌, length, refl, ap, rules, ◌∙◌, sym, arith}
+use Rattle.std.proofs.Common.{◌≡◌, length, refl, ap, rules, ◌∙◌, arith}
 use Rattle.dc_spec.specs.Net.{Net, Run}
-use Rattle.dc_spec.specs.Scripts.{Turn}
 use Rattle.dc_edge.proofs.PutLemmas.{Puts-then, Puts-stops}
 use Rattle.dc_net_rules.proofs.RunSizes.{length-sums}
 use Rattle.dc_view.proofs.ViewText.{view_text-pieces}
@@ -26,7 +25,7 @@ pub put_script-requires : goal.put_script-requires
 put_script-requires g c =
     let rounds : length c.net.inside.script.rounds ≡ length c.args.net.now.script.rounds = ap (λ (n : Net). length n.script.rounds) (c.net.view_is ∙ c.net-net.ensures.value) in
     let sums : length c.args.run.now.sums ≡ length c.args.net.now.script.rounds =
-      ap (λ (r : Run). length r.sums) c.requires ∙ length-sums c.args.net.now c.net-net.ensures.checked.agrees in
+    ap (λ (r : Run). length r.sums) c.requires ∙ length-sums c.args.net.now c.net-net.ensures.checked.agrees in
     omega arith
 
 pub returns : goal.returns

@@ -1,0 +1,146 @@
+//! The run of a net.
+
+ghost use Rattle.std.specs.Prelude.{◌≡◌, ◌+◌, ◌<◌, ◌≤◌, IfOk, length, map};
+ghost use Rattle.std.specs.List.Sorted.{IsStrictlyIncreasing};
+ghost use Rattle.dc_formats.specs.ScriptFile.{IsScript};
+ghost use Rattle.dc_station_rules.specs.Stations.{log_of, pending_counts, sent_of};
+ghost use Rattle.dc_net_rules.specs.Runs.{honest_stations, script_turn, rounds_of, run_of};
+ghost use Rattle.dc_net.specs.Checked.{IsChecked};
+ghost use Rattle.dc_net.specs.Run.{IsRecorded, IsPlayable, seats_after};
+
+use crate::book::Book;
+use crate::checked_net::CheckedNet;
+use crate::net::Net;
+use crate::played::{Logs, Pendings, Played};
+use crate::seat::Seat;
+use crate::seating::{honest_count, seats_of, take_all};
+use dc_edge::Gate;
+use dc_field::NoMemory;
+use dc_workers::map_words;
+use std::alloc::Global;
+use std::thread::Threads;
+
+/// The run of a net, for 1 to 64 workers: in each round the words of the honest stations are computed
+/// by `map_words`, one piece for each, in rising order. Beside what `map_words` gives, all memory is
+/// taken before the first round and after the last.
+pub fn run<R: Threads + Sync, G: Gate + Sync>(
+    rt: &R,
+    alloc: Global,
+    net: &CheckedNet,
+    workers: u32,
+    gate: &G,
+) -> Result<Played, NoMemory>
+    requires some { 1 ≤ workers }
+    requires most { workers ≤ 64 }
+    ensures { IfOk result (λ played. played ≡ run_of net.now) }
+{
+    let net = net.net();
+    let count = honest_count(net);
+    let mut book = Book::start(alloc, net, count)?;
+    let mut seats = seats_of(alloc, net, count, &book.delivered)?;
+    play(rt, alloc, net, workers, gate, &mut seats, &mut book)?;
+    finished(alloc, seats, book)
+}
+
+/// Plays all rounds.
+fn play<R: Threads + Sync, G: Gate + Sync>(
+    rt: &R,
+    alloc: Global,
+    net: &Net,
+    workers: u32,
+    gate: &G,
+    seats: &mut [Seat],
+    book: &mut Book,
+) -> Result<(), NoMemory>
+    requires some { 1 ≤ workers }
+    requires most { workers ≤ 64 }
+    requires checked { IsChecked net.now }
+    requires seats { seats.old ≡ seats_after net.now (rounds_of net.now 0) }
+    requires recorded { IsRecorded net.now (rounds_of net.now 0) book.old }
+    ensures seats { IfOk result (λ _.
+        seats.new ≡ seats_after net.now (rounds_of net.now net.now.words)) }
+    ensures recorded { IfOk result (λ _.
+        IsRecorded net.now (rounds_of net.now net.now.words) book.new) }
+{
+    for round in 0..net.words {
+        play_round(rt, alloc, net, workers, gate, round, seats, book)?;
+    }
+    Ok(())
+}
+
+/// Plays one round: the words of the honest stations, the words of all stations with their sum and
+/// what is delivered, and then each honest station takes its word.
+fn play_round<R: Threads + Sync, G: Gate + Sync>(
+    rt: &R,
+    alloc: Global,
+    net: &Net,
+    workers: u32,
+    gate: &G,
+    round: u16,
+    seats: &mut [Seat],
+    book: &mut Book,
+) -> Result<(), NoMemory>
+    requires some { 1 ≤ workers }
+    requires most { workers ≤ 64 }
+    requires checked { IsChecked net.now }
+    requires round { round < net.now.words }
+    requires seats { seats.old ≡ seats_after net.now (rounds_of net.now round) }
+    requires recorded { IsRecorded net.now (rounds_of net.now round) book.old }
+    ensures seats { IfOk result (λ _.
+        seats.new ≡ seats_after net.now (rounds_of net.now (round + 1))) }
+    ensures recorded { IfOk result (λ _.
+        IsRecorded net.now (rounds_of net.now (round + 1)) book.new) }
+{
+    note_script(net);
+    let honest = map_words(rt, alloc, seats, workers, gate)?;
+    book.record(net, round, honest.as_slice(), seats.len());
+    take_all(rt, workers, seats, &book.delivered);
+    Ok(())
+}
+
+/// Gives the prover facts and does nothing: the script keeps the rules of script files, and the members
+/// rise.
+fn note_script(net: &Net)
+    ensures script { IsScript net.now.script }
+    ensures members { IsStrictlyIncreasing net.now.coalition }
+{
+    let script = &net.script;
+    let _version = script.version;
+    let _ = net.coalition.members();
+}
+
+/// What was recorded, and what each honest station has after the last round.
+fn finished(alloc: Global, seats: Vec<Seat>, book: Book) -> Result<Played, NoMemory>
+    ensures { IfOk result (λ played. played ≡ record {
+      words = book.words.words;
+      sums = book.sums.words;
+      delivered = book.delivered.words;
+      logs = map (λ seat. log_of seat.received) seats.entry.items;
+      sents = map (λ seat. sent_of seat.stream seat.received) seats.entry.items;
+      pending = map (λ seat. pending_counts seat.stream seat.received) seats.entry.items;
+    }) }
+{
+    let mut logs = Vec::with_capacity(alloc, seats.len())?;
+    let mut sents = Vec::with_capacity(alloc, seats.len())?;
+    let mut pending = Vec::with_capacity(alloc, seats.len())?;
+    for seat in seats {
+        let ended = seat.finish();
+        logs.push_reserved(ended.log);
+        sents.push_reserved(ended.sent);
+        pending.push_reserved(ended.pending);
+    }
+    let Book {
+        words,
+        sums,
+        delivered,
+        ..
+    } = book;
+    Ok(Played {
+        words: words.into_words(),
+        sums: sums.into_words(),
+        delivered: delivered.into_words(),
+        logs: Logs::from_vec(logs),
+        sents: Logs::from_vec(sents),
+        pending: Pendings::from_vec(pending),
+    })
+}

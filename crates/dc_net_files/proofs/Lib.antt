@@ -1,0 +1,7 @@
+pub mod NeededLemmas
+pub mod GaveLemmas
+pub mod EndedLemmas
+pub mod StreamLemmas
+pub mod PartsLemmas
+pub mod NetLemmas
+pub mod SettledLemmas
