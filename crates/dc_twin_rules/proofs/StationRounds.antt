@@ -1,5 +1,5 @@
 -- An honest station's word in a round is the same in the twin.
-use Rattle.std.proofs.Common.{◌≡◌, ℕ, ◌+◌, ◌-◌, ◌%◌, ◌<◌, ◌≤◌, ◌==◌, ◌||◌, not, Bool, true, false, cond, List, length, map, filter, take, sum_by, slice_index, slice_index_or, None, refl, sym, ◌∙◌, ap, subst, arith, true≢false}
+use Rattle.std.proofs.Common.{◌≡◌, ℕ, ◌+◌, ◌-◌, ◌%◌, ◌<◌, ◌≤◌, ◌==◌, ◌||◌, not, true, false, cond, List, length, map, filter, take, sum_by, slice_index, slice_index_or, None, refl, sym, ◌∙◌, ap, subst, arith}
 use Rattle.std.specs.List.{All, range_with_len}
 use Rattle.std.proofs.lemmas.Bool.{and_parts, not-true}
 use Rattle.dc_spec.specs.Lists.{is_among}
@@ -16,6 +16,7 @@ use Rattle.dc_graph_rules.proofs.ForestLemmas.{parents_ranked, neighbours-comm, 
 use Rattle.dc_graph_rules.proofs.DistanceLemmas.{root-sum}
 use Rattle.dc_graph_rules.proofs.ParentLemmas.{parents-least}
 use Rattle.dc_key_rules.specs.PairKeys.{symbols, key_word, key_part}
+use Rattle.dc_key_rules.proofs.KeyLemmas.{key_part-symbol}
 use Rattle.dc_station_rules.specs.Stations.{plain_word}
 use Rattle.dc_net_rules.specs.Nets.{IsNet}
 use Rattle.dc_net_rules.specs.Runs.{word_of_station, station_stream, station_word, history, rounds_of, all_rounds, IsAlike}
@@ -26,7 +27,7 @@ use Rattle.dc_twin_rules.proofs.Permuted.{inverse-below}
 use Rattle.dc_twin_rules.proofs.KeyedSums.{sum_by-mod_plus, all_range}
 use Rattle.dc_twin_rules.proofs.TreeEdges.{parent-at, length-parents, parent-neighbours, parents-apart, one-end, is_smaller_end, is_larger_end, pairs-apart}
 use Rattle.dc_twin_rules.proofs.Shifting.{gain, kept-u, kept-v}
-use Rattle.dc_twin_rules.proofs.KeyGains.{key_part-symbol, end-gain, balanced, parent-counts}
+use Rattle.dc_twin_rules.proofs.KeyGains.{end-gain, balanced, parent-counts}
 use Rattle.dc_twin_rules.proofs.PartSums.{second_fails, walk-honest, part-sum_zero}
 use Rattle.dc_twin_rules.proofs.Histories.{take-history, one-history, is-honest, moved-stream, demand-at, demand-word, demand-symbol, plain-below}
 use Rattle.dc_twin_rules.proofs.Changes.{below-symbol, changed, twin-pairs, sum-honest, sum-symbol, key-gains}
