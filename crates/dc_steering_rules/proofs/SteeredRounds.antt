@@ -113,3 +113,177 @@ round-part net k s x y e st t i l within low few =
     let size : length h ≡ t = length-history a t i in
     part-gain net k s x y e st i h l (omega arith) few (same_symbols net k s x y e st t i (omega arith) low)
     ∙ ap (λ (m : ℕ). (slice_index (key_part (pairs_at net k k) i h) l + word_gain k e i (16 * m + l)) % 65537) size
+
+-- what the word of an honest station gains
+station-gain : (net : Net) (k : Pair) (s : ℕ) (x y e : List ℕ) → Steers net k s x y e → (stream : Stream) (t i l : ℕ) → t < net.words → i < net.stations → l < 16 →
+    (let h = history (rounds_of (with_pairs net (pairs_at net k k)) t) i in
+    slice_index (station_word stream (pairs_at net k (changed_pair k x y)) i h) l ≡ (slice_index (station_word stream (pairs_at net k k) i h) l + word_gain k e i (16 * t + l)) % 65537)
+station-gain net k s x y e st stream t i l within low few =
+    let h = history (rounds_of (with_pairs net (pairs_at net k k)) t) i in
+    let part : List Pair → ℕ → ℕ = λ ps j. slice_index (key_part ps i h) j in
+    let plain : ℕ → ℕ = λ j. slice_index (plain_word stream h) j in
+    let word : (ps : List Pair) → slice_index (station_word stream ps i h) l ≡ (plain l + part ps l) % 65537 = λ ps. symbol-word_of (λ j. (plain j + part ps j) % 65537) l few in
+    word (pairs_at net k (changed_pair k x y)) ∙ ap (λ (z : ℕ). (plain l + z) % 65537) (round-part net k s x y e st t i l within low few)
+    ∙ outer (plain l) (part (pairs_at net k k) l) (word_gain k e i (16 * t + l)) ∙ ap (λ (z : ℕ). (z + word_gain k e i (16 * t + l)) % 65537) (sym (word (pairs_at net k k)))
+  where
+    outer : (p z c : ℕ) → (p + (z + c) % 65537) % 65537 ≡ ((p + z) % 65537 + c) % 65537
+    outer p z c = omega arith
+
+-- where it gains nothing the word stays
+station-kept : (net : Net) (k : Pair) (s : ℕ) (x y e : List ℕ) → Steers net k s x y e → (stream : Stream) (t i : ℕ) → t < net.words → i < net.stations →
+    ((l : ℕ) → l < 16 → word_gain k e i (16 * t + l) ≡ 0) →
+    (let h = history (rounds_of (with_pairs net (pairs_at net k k)) t) i in station_word stream (pairs_at net k (changed_pair k x y)) i h ≡ station_word stream (pairs_at net k k) i h)
+station-kept net k s x y e st stream t i within low nothing =
+    let h = history (rounds_of (with_pairs net (pairs_at net k k)) t) i in
+    let part : List Pair → ℕ → ℕ = λ ps j. slice_index (key_part ps i h) j in
+    let plain : ℕ → ℕ = λ j. slice_index (plain_word stream h) j in
+    word_of-same (λ j. (plain j + part (pairs_at net k (changed_pair k x y)) j) % 65537) (λ j. (plain j + part (pairs_at net k k) j) % 65537) (λ l few.
+    same (plain l) (part (pairs_at net k k) l) (part (pairs_at net k (changed_pair k x y)) l) (word_gain k e i (16 * t + l)) (nothing l few) (round-part net k s x y e st t i l within low few))
+  where
+    same : (p z z' c : ℕ) → c ≡ 0 → z' ≡ (z + c) % 65537 → (p + z') % 65537 ≡ (p + z) % 65537
+    same p z z' c none is = omega arith
+
+-- nothing is gained up to round s
+early_gain : (net : Net) (k : Pair) (s : ℕ) (x y e : List ℕ) → Steers net k s x y e → (t i l : ℕ) → t ≤ s → l < 16 → word_gain k e i (16 * t + l) ≡ 0
+early_gain net k s x y e st t i l within few = zero_either (k.v == i) (slice_index e (16 * t + l)) (st.none (16 * t + l) (omega arith))
+  where
+    zero_either : (b : Bool) (z : ℕ) → z ≡ 0 → cond b z 0 ≡ 0
+    zero_either true z is = is
+    zero_either false z is = refl
+
+-- a list by station
+range-same : {X : Type 0} (f g : ℕ → X) (n : ℕ) (d : X) → ((i : ℕ) → i < n → f i ≡ g i) → map f (range_with_len 0 n) ≡ map g (range_with_len 0 n)
+range-same f g n d same = fill_by_all g (map f (range_with_len 0 n)) n d (length-map-range_with_len f 0 n) (λ i low. get_or-map-range_with_len f 0 n i i d low (omega arith) ∙ same i low)
+
+-- the words of a round by those of the honest stations
+abbrev words_from : Net → Turn → List (List ℕ) → List (List ℕ) → List (List ℕ)
+words_from net turn before honest = map (λ i. if is_among net.coalition i then word_by_rule turn.says (before ++ honest) net.stations i else word_of_station honest i) (range_with_len 0 net.stations)
+
+-- in a round up to s the words stay
+early_words : (net : Net) (k : Pair) (s : ℕ) (x y e : List ℕ) → Steers net k s x y e → (t : ℕ) → t ≤ s → t < net.words →
+    rounds_of (with_pairs net (pairs_at net k (changed_pair k x y))) t ≡ rounds_of (with_pairs net (pairs_at net k k)) t →
+    next_words (with_pairs net (pairs_at net k (changed_pair k x y))) (rounds_of (with_pairs net (pairs_at net k (changed_pair k x y))) t)
+    ≡ next_words (with_pairs net (pairs_at net k k)) (rounds_of (with_pairs net (pairs_at net k k)) t)
+early_words net k s x y e st t early within same =
+    let b = with_pairs net (pairs_at net k (changed_pair k x y)) in
+    let a = with_pairs net (pairs_at net k k) in
+    let played = rounds_of a t in
+    let one : (i : ℕ) → i < net.stations → (if is_among net.coalition i then zero_word else station_word (station_stream net i) (pairs_at net k (changed_pair k x y)) i (history played i))
+    ≡ (if is_among net.coalition i then zero_word else station_word (station_stream net i) (pairs_at net k k) i (history played i)) = λ i low.
+    ap (λ (w : List ℕ). if is_among net.coalition i then zero_word else w)
+    (station-kept net k s x y e st (station_stream net i) t i within low (λ l few. early_gain net k s x y e st t i l early few)) in
+    let honest : honest_words b played ≡ honest_words a played = range-same _ _ net.stations [] one in
+    ap (λ (rs : List Round). next_words b rs) same ∙ ap (λ (ws : List (List ℕ)). words_from net (script_turn net (length played)) (published played) ws) honest
+
+-- so all rounds up to s stay
+pub early_rounds : (net : Net) (k : Pair) (s : ℕ) (x y e : List ℕ) → Steers net k s x y e → (t : ℕ) → t ≤ s + 1 → s < net.words →
+    rounds_of (with_pairs net (pairs_at net k (changed_pair k x y))) t ≡ rounds_of (with_pairs net (pairs_at net k k)) t
+early_rounds net k s x y e st zero within some = rounds_none (with_pairs net (pairs_at net k (changed_pair k x y))) ∙ sym (rounds_none (with_pairs net (pairs_at net k k)))
+early_rounds net k s x y e st (suc t) within some =
+    let b = with_pairs net (pairs_at net k (changed_pair k x y)) in
+    let a = with_pairs net (pairs_at net k k) in
+    let before = early_rounds net k s x y e st t (omega arith) some in
+    let one : suc t ≡ t + 1 = omega arith in
+    subst (λ (m : ℕ). rounds_of b m ≡ rounds_of a m) (sym one)
+    (same_next net (pairs_at net k (changed_pair k x y)) (pairs_at net k k) t before (early_words net k s x y e st t (omega arith) (omega arith) before))
+
+-- the round of the first difference is one of the session
+pub some_rounds : (net : Net) (u v s : ℕ) → MaySteer net u v s → s < net.words
+some_rounds net u v s may = let d = may.differ in let r = may.in_round in below (first_difference (heard_symbols net u) (heard_symbols net v)) s net.words d r
+  where
+    below : (p s t : ℕ) → p < 16 * t → p / 16 ≡ s → s < t
+    below p s t d r = omega arith
+
+-- the word of a station in a round, by what it is
+word_is : (net : Net) (played : List Round) (i : ℕ) → i < net.stations → word_of_station (next_words net played) i
+    ≡ (if is_among net.coalition i then word_by_rule (script_turn net (length played)).says (published played ++ honest_words net played) net.stations i else
+    (if is_among net.coalition i then zero_word else station_word (station_stream net i) net.keys.pairs i (history played i)))
+word_is net played i low =
+    let honest = honest_words net played in
+    let says = word_by_rule (script_turn net (length played)).says (published played ++ honest) net.stations i in
+    get_or-map-range_with_len (λ j. if is_among net.coalition j then word_by_rule (script_turn net (length played)).says (published played ++ honest) net.stations j else word_of_station honest j) 0 net.stations i i
+    zero_word low (omega arith)
+    ∙ ap (λ (w : List ℕ). if is_among net.coalition i then says else w)
+    (get_or-map-range_with_len (λ j. if is_among net.coalition j then zero_word else station_word (station_stream net j) net.keys.pairs j (history played j)) 0 net.stations i i zero_word low (omega arith))
+
+-- a member's, and an honest station's
+member_word : (net : Net) (played : List Round) (i : ℕ) → i < net.stations → is_among net.coalition i ≡ true → word_of_station (next_words net played) i
+    ≡ word_by_rule (script_turn net (length played)).says (published played ++ honest_words net played) net.stations i
+member_word net played i low member = word_is net played i low ∙ ap (λ (b : Bool). if b then word_by_rule (script_turn net (length played)).says (published played ++ honest_words net played) net.stations i else
+    (if is_among net.coalition i then zero_word else station_word (station_stream net i) net.keys.pairs i (history played i))) member
+
+own_word : (net : Net) (played : List Round) (i : ℕ) → i < net.stations → is_among net.coalition i ≡ false → word_of_station (next_words net played) i
+    ≡ station_word (station_stream net i) net.keys.pairs i (history played i)
+own_word net played i low honest = word_is net played i low ∙ ap (λ (b : Bool). if b then word_by_rule (script_turn net (length played)).says (published played ++ honest_words net played) net.stations i else
+    (if b then zero_word else station_word (station_stream net i) net.keys.pairs i (history played i))) honest
+
+-- both are words
+pub word_is_word : (net : Net) (played : List Round) (i : ℕ) → i < net.stations → IsWord (word_of_station (next_words net played) i)
+word_is_word net played i low = elim (cases_Bool (is_among net.coalition i)) [
+  | inl member ↦ subst IsWord (sym (member_word net played i low member)) (rule_is_word (script_turn net (length played)).says (published played ++ honest_words net played) net.stations i)
+  | inr honest ↦ subst IsWord (sym (own_word net played i low honest)) (remainders _)
+]
+
+-- what a word of a round gains
+pub gained_word : (net : Net) (k : Pair) (s : ℕ) (x y e : List ℕ) → Steers net k s x y e → (t i l : ℕ) → t < net.words → i < net.stations → l < 16 →
+    slice_index (word_of_station (next_words (with_pairs net (pairs_at net k (changed_pair k x y))) (rounds_of (with_pairs net (pairs_at net k (changed_pair k x y))) t)) i) l
+    ≡ (slice_index (word_of_station (next_words (with_pairs net (pairs_at net k k)) (rounds_of (with_pairs net (pairs_at net k k)) t)) i) l + word_gain k e i (16 * t + l)) % 65537
+gained_word net k s x y e st t i l within low few =
+    let b = with_pairs net (pairs_at net k (changed_pair k x y)) in
+    let a = with_pairs net (pairs_at net k k) in
+    let in_a = rounds_of a t in
+    let in_b = rounds_of b t in
+    let some = some_rounds net k.u k.v s st.may in
+    let word : ℕ = slice_index (word_of_station (next_words a in_a) i) l in
+    let no_gain : word_gain k e i (16 * t + l) ≡ 0 → word_of_station (next_words b in_b) i ≡ word_of_station (next_words a in_a) i →
+    slice_index (word_of_station (next_words b in_b) i) l ≡ (word + word_gain k e i (16 * t + l)) % 65537 = λ none same.
+    ap (λ (w : List ℕ). slice_index w l) same ∙ stays word (word_gain k e i (16 * t + l)) ((word_is_word a in_a i low).symbols l) none in
+    elim (below_or_past t (s + 1)) [
+      | inl early ↦ no_gain (early_gain net k s x y e st t i l (omega arith) few)
+          (ap (λ (ws : List (List ℕ)). word_of_station ws i) (early_words net k s x y e st t (omega arith) within (early_rounds net k s x y e st t (omega arith) some)))
+      | inr late ↦ elim (cases_Bool (is_among net.coalition i)) [
+        | inl member ↦ (let f = st.may.fixed t (omega arith) within in
+            let says : (n : List Round) → length n ≡ t → (ws : List (List ℕ)) → word_by_rule (script_turn net (length n)).says ws net.stations i ≡ word_by_rule (script_turn net t).says [] net.stations i = λ n size ws.
+            ap (λ (m : ℕ). word_by_rule (script_turn net m).says ws net.stations i) size ∙ fixed_word (script_turn net t).says ws [] net.stations i f.fixed_says in
+            let other : (k.v == i) ≡ false = ne_eqb k.v i (λ is. true≢false (sym member ∙ subst (λ (z : ℕ). is_among net.coalition z ≡ false) is (no_member net k.v st.may.honest_larger))) in
+            no_gain (ap (λ (c : Bool). cond c (slice_index e (16 * t + l)) 0) other)
+            (member_word b in_b i low member ∙ says in_b (length-rounds_of b t) _ ∙ sym (says in_a (length-rounds_of a t) _) ∙ sym (member_word a in_a i low member)))
+        | inr honest ↦ (let same = same_histories net (pairs_at net k (changed_pair k x y)) (pairs_at net k k) s (early_rounds net k s x y e st (s + 1) (omega arith) some) st.may.fixed t i (omega arith) low in
+            ap (λ (w : List ℕ). slice_index w l) (own_word b in_b i low honest ∙ ap (λ (h : List (List ℕ)). station_word (station_stream net i) (pairs_at net k (changed_pair k x y)) i h) same)
+            ∙ station-gain net k s x y e st (station_stream net i) t i l within low few
+            ∙ ap (λ (w : List ℕ). (slice_index w l + word_gain k e i (16 * t + l)) % 65537) (sym (own_word a in_a i low honest)))
+      ]
+    ]
+  where
+    stays : (w c : ℕ) → w < 65537 → c ≡ 0 → w ≡ (w + c) % 65537
+    stays w c low none = omega arith
+
+-- a sum over the words of a round, by station
+by_station : (f : List ℕ → ℕ) (ws : List (List ℕ)) (n : ℕ) → length ws ≡ n → sum_by f ws ≡ sum_by (λ i. f (word_of_station ws i)) (range_with_len 0 n)
+by_station f ws n size = ap (λ (vs : List (List ℕ)). sum_by f vs) (fill_by_all (word_of_station ws) ws n zero_word size (λ i low. refl)) ∙ sum_by-map f (word_of_station ws) (range_with_len 0 n)
+
+-- what the sum of a round gains
+pub gained_sum : (net : Net) (k : Pair) (s : ℕ) (x y e : List ℕ) → Steers net k s x y e → (t l : ℕ) → t < net.words → l < 16 →
+    slice_index (word_sum (next_words (with_pairs net (pairs_at net k (changed_pair k x y))) (rounds_of (with_pairs net (pairs_at net k (changed_pair k x y))) t))) l
+    ≡ (slice_index (word_sum (next_words (with_pairs net (pairs_at net k k)) (rounds_of (with_pairs net (pairs_at net k k)) t))) l + slice_index e (16 * t + l)) % 65537
+gained_sum net k s x y e st t l within few =
+    let b = with_pairs net (pairs_at net k (changed_pair k x y)) in
+    let a = with_pairs net (pairs_at net k k) in
+    let in_a = next_words a (rounds_of a t) in
+    let in_b = next_words b (rounds_of b t) in
+    let stations = range_with_len 0 net.stations in
+    let word : List (List ℕ) → ℕ → ℕ = λ ws i. slice_index (word_of_station ws i) l in
+    let gain : ℕ → ℕ = λ i. word_gain k e i (16 * t + l) in
+    let total : (ws : List (List ℕ)) → length ws ≡ net.stations → slice_index (word_sum ws) l ≡ sum_by (word ws) stations % 65537 = λ ws size.
+    symbol-word_of (λ j. sum_by (λ w. slice_index w j) ws % 65537) l few ∙ ap (λ (z : ℕ). z % 65537) (by_station (λ w. slice_index w l) ws net.stations size) in
+    let each : sum_by (word in_b) stations ≡ sum_by (λ i. (word in_a i + gain i) % 65537) stations = sum_by-same _ _ stations (λ i there.
+    gained_word net k s x y e st t i l within (let low : i < 0 + net.stations = below_range 0 net.stations i there in omega arith) few) in
+    let larger : sum_by gain stations ≡ slice_index e (16 * t + l) = sum_by-same gain (λ i. cond (nat_eq i k.v) (slice_index e (16 * t + l)) 0) stations
+    (λ i there. ap (λ (c : Bool). cond c (slice_index e (16 * t + l)) 0) (nat_eq-comm k.v i))
+    ∙ sum_by-single (λ i. slice_index e (16 * t + l)) 0 net.stations k.v zero-le (let low = honest_below net k.v st.may.honest_larger in omega arith) in
+    total in_b (length-next_words b (rounds_of b t)) ∙ ap (λ (z : ℕ). z % 65537) each ∙ sum_by-mod (λ i. word in_a i + gain i) stations
+    ∙ ap (λ (z : ℕ). z % 65537) (sum_by-plus (word in_a) gain stations ∙ ap (λ (z : ℕ). sum_by (word in_a) stations + z) larger)
+    ∙ outer (sum_by (word in_a) stations) (slice_index e (16 * t + l)) ∙ ap (λ (z : ℕ). (z + slice_index e (16 * t + l)) % 65537) (sym (total in_a (length-next_words a (rounds_of a t))))
+  where
+    outer : (p e : ℕ) → (p + e) % 65537 ≡ (p % 65537 + e) % 65537
+    outer p e = omega arith
