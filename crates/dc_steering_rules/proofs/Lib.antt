@@ -5,3 +5,7 @@ pub mod SteeredKeys
 pub mod ReceivedWords
 pub mod SameRuns
 pub mod SteeredRounds
+pub mod Opposite
+pub mod LaterSums
+pub mod OwnPair
+pub mod EquallyMany
