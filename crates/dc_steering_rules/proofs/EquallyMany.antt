@@ -16,7 +16,7 @@ use Rattle.dc_net_rules.proofs.RunLemmas.{honest_below}
 use Rattle.dc_net_rules.proofs.Agreeing.{all_agree}
 use Rattle.dc_twin_rules.proofs.PadSums.{pads_add-at, length-pads_add}
 use Rattle.dc_steering_rules.specs.Steerings.{first_difference, steered_from, IsSteering, second_changes, first_changes, steered, changes_between, has_ends, with_pair, steered_net}
-use Rattle.dc_steering_rules.specs.Counting.{MaySteer, IsKeyListFor, heard_symbols, steered_between, own_pair, word_said, OthersSayTheSame}
+use Rattle.dc_steering_rules.specs.Counting.{MaySteer, IsKeyListFor, heard_symbols, steered_between, own_pair, word_said, OthersSayTheSame, IsSteeredTo}
 use Rattle.dc_steering_rules.proofs.SteeringLemmas.{below_or_past, computed-steers}
 use Rattle.dc_steering_rules.proofs.OneSteering.{steering_is_computed}
 use Rattle.dc_steering_rules.proofs.KeyChanges.{put_pair}
@@ -234,3 +234,26 @@ steered_is net u v s may wanted =
     (found_put (has_ends u v) (λ (q : Pair). changed_pair q (x u v (p / 16)) (y u v (p / 16))) (record { u = u; v = v; a = []; b = [] }) net.keys.pairs may.one_pair
     ∙ ap (λ (r : ℕ). map (put_pair u v (changed_pair own (x u v r) (y u v r))) net.keys.pairs) may.in_round
     ∙ ap₂ (λ (a : ℕ) (b : ℕ). map (put_pair a b (changed_pair own (x a b s) (y a b s))) net.keys.pairs) (sym ends.0) (sym ends.1))
+
+-- all of it together
+pub key_lists_as_many : (net : Net) (u v s : ℕ) → MaySteer net u v s → (w w' : List (List ℕ)) → AreWords w → AreWords w' → length w' ≡ net.words - (s + 1) → (k : Pair) → IsKeyListFor net u v s w k →
+    (let k' = steered_between net s k w w' in
+    IsKeyListFor net u v s w' k' × (steered_between net s k' w' w ≡ k) × OthersSayTheSame (with_pair net k) (with_pair net k') v)
+key_lists_as_many net u v s may w w' are are' many k is = (
+  steered_list net u v s may w w' are' many k is,
+  steered_back net u v s may w w' are are' many k is,
+  others_same net u v s may w w' k is,
+)
+
+-- the steered net
+pub steered_net_is_steered : (net : Net) (u v s : ℕ) → MaySteer net u v s → (wanted : List (List ℕ)) → AreWords wanted → length wanted ≡ net.words - (s + 1) →
+    IsSteeredTo net v s wanted (steered_net net u v wanted)
+steered_net_is_steered net u v s may wanted are many =
+    let given = drop (s + 1) (run_of net).sums in
+    let own = own_pair net u v in
+    let own_is = own_list net u v s may in
+    let listed = steered_list net u v s may given wanted are many own own_is in
+    let others = others_same net u v s may given wanted own own_is in
+    let k = steered_between net s own given wanted in
+    let from_own : OthersSayTheSame net (with_pair net k) v = subst (λ (n : Net). OthersSayTheSame n (with_pair net k) v) (own_net net u v s may) others in
+    subst (λ (n : Net). IsSteeredTo net v s wanted n) (sym (steered_is net u v s may wanted)) (record { early = listed.early; later = listed.later; others_same = from_own })

@@ -67,3 +67,10 @@ abbrev pub OthersSayTheSame : Net → Net → ℕ → Type 0
 OthersSayTheSame net other v =
     (t i : ℕ) → t < net.words → i < net.stations → i ≢ v
     → word_said other t i ≡ word_said net t i
+
+-- another net of the same stations and words says the words of a net up to round s, its later sums
+-- are the wanted ones, and each station but v says the same words in all rounds
+pub record IsSteeredTo (net : Net) (v s : ℕ) (wanted : List (List ℕ)) (other : Net) : Type 0 where
+  pub early : published (rounds_of other (s + 1)) ≡ published (rounds_of net (s + 1))
+  pub later : drop (s + 1) (run_of other).sums ≡ wanted
+  pub others_same : OthersSayTheSame net other v
