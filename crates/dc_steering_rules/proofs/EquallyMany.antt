@@ -1,22 +1,21 @@
 -- Each list of later sums has equally many key lists: steering from one list of sums to another leads
 -- from the key lists of the one to those of the other, and back again.
-use Rattle.std.proofs.Common.{◌≡◌, ◌≢◌, ℕ, zero, suc, ◌+◌, ◌-◌, ◌*◌, ◌/◌, ◌%◌, ◌<◌, ◌≤◌, ◌==◌, Bool, true, false, cond, if◌then◌else◌, List, [], ◌∷◌, length, map, drop, get_or, slice_index, refl, sym, ◌∙◌, ap, ap₂, subst, inl, inr, arith}
+use Rattle.std.proofs.Common.{◌≡◌, ◌≢◌, ℕ, ◌+◌, ◌-◌, ◌*◌, ◌/◌, ◌%◌, ◌<◌, ◌≤◌, ◌==◌, Bool, false, cond, List, [], length, map, drop, get_or, slice_index, sym, ◌∙◌, ap, ap₂, subst, inl, inr, arith}
 use Rattle.std.specs.List.{All}
 use Rattle.std.proofs.lemmas.Bool.{ne_eqb}
 use Rattle.std.proofs.lemmas.List.{ext_get_or, get_or_past}
-use Rattle.std.proofs.Math.ListN.{get_or-eq_default}
-use Rattle.dc_spec.specs.Words.{IsSymbol, IsWord, AreWords}
+use Rattle.dc_spec.specs.Words.{IsSymbol, AreWords}
 use Rattle.dc_spec.specs.Symbols.{AreSymbols}
 use Rattle.dc_spec.specs.Pads.{Pair}
 use Rattle.dc_spec.specs.Net.{Net}
 use Rattle.dc_formats.specs.KeyFile.{IsPair}
 use Rattle.dc_key_rules.specs.PairKeys.{pads_add, changed_pair}
-use Rattle.dc_net_rules.specs.Runs.{Round, word_of_station, published, next_words, rounds_of, run_of}
+use Rattle.dc_net_rules.specs.Runs.{word_of_station, published, next_words, rounds_of, run_of}
 use Rattle.dc_net_rules.proofs.RunLemmas.{honest_below}
 use Rattle.dc_net_rules.proofs.Agreeing.{all_agree}
 use Rattle.dc_twin_rules.proofs.PadSums.{pads_add-at, length-pads_add}
-use Rattle.dc_steering_rules.specs.Steerings.{first_difference, steered_from, IsSteering, second_changes, first_changes, steered, changes_between, has_ends, with_pair, steered_net}
-use Rattle.dc_steering_rules.specs.Counting.{MaySteer, IsKeyListFor, heard_symbols, steered_between, own_pair, word_said, OthersSayTheSame, IsSteeredTo}
+use Rattle.dc_steering_rules.specs.Steerings.{first_difference, steered_from, IsSteering, second_changes, first_changes, changes_between, has_ends, with_pair, steered_net}
+use Rattle.dc_steering_rules.specs.Counting.{MaySteer, IsKeyListFor, heard_symbols, steered_between, own_pair, OthersSayTheSame, IsSteeredTo}
 use Rattle.dc_steering_rules.proofs.SteeringLemmas.{below_or_past, computed-steers}
 use Rattle.dc_steering_rules.proofs.OneSteering.{steering_is_computed}
 use Rattle.dc_steering_rules.proofs.KeyChanges.{put_pair}

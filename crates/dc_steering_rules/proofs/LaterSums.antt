@@ -1,17 +1,16 @@
 -- The sums of a run after a round, and the changes that turn them into wanted ones.
-use Rattle.std.proofs.Common.{◌≡◌, ℕ, zero, suc, ◌+◌, ◌-◌, ◌*◌, ◌%◌, ◌<◌, ◌≤◌, List, [], ◌∷◌, ◌++◌, length, map, drop, zip, replicate, get_or, slice_index, sum_by, refl, sym, ◌∙◌, ap, ap₂, subst, inl, inr, arith, eq-or-lt_of_le, le_of_suc-le-suc}
-use Rattle.std.specs.List.{All}
+use Rattle.std.proofs.Common.{◌≡◌, ℕ, zero, suc, ◌+◌, ◌-◌, ◌*◌, ◌%◌, ◌<◌, List, [], ◌∷◌, ◌++◌, length, map, drop, zip, replicate, get_or, slice_index, sum_by, refl, sym, ◌∙◌, ap, subst, inl, inr, arith, eq-or-lt_of_le, le_of_suc-le-suc}
 use Rattle.std.proofs.Math.Seq.{get_or-append_seam}
 use Rattle.std.proofs.lemmas.List.{ext_get_or, get_or-map, get_or-drop, get_or_append_left, get_or-append-add, get_or-replicate, length-replicate, length-drop, length-map}
 use Rattle.std.proofs.lemmas.List.Elements.{All-cons, All-weaker}
-use Rattle.dc_spec.specs.Words.{IsWord, AreWords, word_of, word_sub, word_sum, zero_word}
+use Rattle.dc_spec.specs.Words.{IsWord, AreWords, word_sub, word_sum, zero_word}
 use Rattle.dc_spec.specs.Symbols.{AreSymbols}
 use Rattle.dc_spec.specs.Pads.{Pair}
 use Rattle.dc_spec.specs.Net.{Net}
 use Rattle.dc_key_rules.specs.PairKeys.{symbols, changed_pair}
 use Rattle.dc_net_rules.specs.Runs.{Round, word_of_station, published, next_words, next_round, rounds_of, all_rounds, run_of}
 use Rattle.dc_spec.proofs.WordLemmas.{symbol-word_of, word_from_symbols}
-use Rattle.dc_net_rules.proofs.RoundLemmas.{length-rounds_of, length-published, length-next_words, published_more}
+use Rattle.dc_net_rules.proofs.RoundLemmas.{length-rounds_of, length-published, published_more}
 use Rattle.dc_twin_rules.proofs.PadSums.{symbols-at}
 use Rattle.dc_steering_rules.specs.Steerings.{changes_between, with_pair}
 use Rattle.dc_steering_rules.specs.Counting.{word_said}

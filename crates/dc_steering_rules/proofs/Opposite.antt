@@ -1,14 +1,12 @@
 -- A steering and then the one by the opposite changes: the pads are the first ones again.
-use Rattle.std.proofs.Common.{◌≡◌, ℕ, zero, suc, ◌+◌, ◌-◌, ◌*◌, ◌/◌, ◌%◌, ◌<◌, ◌≤◌, List, [], ◌∷◌, length, map, slice_index, sum_by, refl, sym, ◌∙◌, ap, ap₂, subst, inl, inr, arith}
-use Rattle.std.specs.List.{All, range_with_len}
+use Rattle.std.proofs.Common.{◌≡◌, ℕ, zero, suc, ◌+◌, ◌-◌, ◌*◌, ◌/◌, ◌%◌, ◌<◌, ◌≤◌, List, [], ◌∷◌, length, map, slice_index, sum_by, refl, sym, ◌∙◌, ap, ap₂, subst, arith}
+use Rattle.std.specs.List.{range_with_len}
 use Rattle.std.proofs.lemmas.Nat.{mul-mod_first}
 use Rattle.std.proofs.lemmas.List.{get_or_past, length-map}
 use Rattle.std.proofs.lemmas.List.Sums.{sum_by-cons}
-use Rattle.dc_spec.specs.Words.{IsSymbol}
 use Rattle.dc_spec.specs.Symbols.{AreSymbols}
 use Rattle.dc_key_rules.specs.PairKeys.{pads_add}
-use Rattle.dc_steering_rules.specs.Steerings.{first_difference, steered_from, difference_at, steered_symbol, gained_symbol, IsSteering}
-use Rattle.dc_steering_rules.proofs.SteeringLemmas.{below_or_past}
+use Rattle.dc_steering_rules.specs.Steerings.{first_difference, steered_from, difference_at, IsSteering}
 
 -- the opposite changes
 pub opposite : List ℕ → List ℕ

@@ -1,12 +1,11 @@
 -- The symbols that a station received: how many there are, and that those of the first rounds are
 -- those of the whole run.
-use Rattle.std.proofs.Common.{◌≡◌, ◌≢◌, ℕ, zero, suc, ◌+◌, ◌-◌, ◌*◌, ◌%◌, ◌<◌, ◌≤◌, Bool, true, false, cond, ◌==◌, List, [], ◌∷◌, ◌++◌, length, map, find, take, drop, get_or, slice_index, nat_eq, Some, None, refl, sym, ◌∙◌, ap, subst, inl, inr, arith, eq-or-lt_of_le, le_of_suc-le-suc, eq-eqb, true≢false}
-use Rattle.std.specs.List.{All}
+use Rattle.std.proofs.Common.{◌≡◌, ◌≢◌, ℕ, zero, suc, ◌+◌, ◌-◌, ◌*◌, ◌%◌, ◌<◌, ◌≤◌, true, false, cond, ◌==◌, List, [], ◌∷◌, ◌++◌, length, map, find, take, drop, slice_index, nat_eq, Some, refl, sym, ◌∙◌, ap, subst, inl, inr, arith, eq-or-lt_of_le, le_of_suc-le-suc, eq-eqb, true≢false}
 use Rattle.std.specs.Option.{option_map_or}
 use Rattle.std.proofs.lemmas.Grind.{flat_map-append}
 use Rattle.std.proofs.lemmas.List.{take-append-le, take-append-drop, map-append, get_or_append_left, get_or-append-add, get_or_past, take_all}
 use Rattle.std.proofs.lemmas.List.Elements.{All-push, All-head, All-tail, All-weaker}
-use Rattle.dc_spec.specs.Words.{IsWord, AreWords, word_of, zero_word, word_sum}
+use Rattle.dc_spec.specs.Words.{IsWord, AreWords, word_of, zero_word}
 use Rattle.dc_spec.specs.Symbols.{AreSymbols}
 use Rattle.dc_spec.specs.Scripts.{Said, Delivery, all_sum, each, rule_word, word_by_rule}
 use Rattle.dc_spec.specs.Net.{Net}
@@ -100,9 +99,9 @@ differ_at [] ys low same = absurd (omega arith)
 differ_at (x ∷ xs) [] low same = absurd (omega arith)
 differ_at (x ∷ xs) (y ∷ ys) low same = (elim (nat_eq x y) as (λ b. nat_eq x y ≡ b → cond b (1 + first_difference xs ys) 0 < length (x ∷ xs) →
     slice_index (x ∷ xs) (cond b (1 + first_difference xs ys) 0) ≢ slice_index (y ∷ ys) (cond b (1 + first_difference xs ys) 0)) [
-  | true ↦ λ e less equal. differ_at xs ys (omega arith) (omega arith) (sym (later x xs (first_difference xs ys)) ∙ equal ∙ later y ys (first_difference xs ys))
-  | false ↦ λ e less equal. true≢false (sym (eq-eqb x y equal) ∙ e)
-]) refl low
+      | true ↦ λ e less equal. differ_at xs ys (omega arith) (omega arith) (sym (later x xs (first_difference xs ys)) ∙ equal ∙ later y ys (first_difference xs ys))
+      | false ↦ λ e less equal. true≢false (sym (eq-eqb x y equal) ∙ e)
+    ]) refl low
   where
     later : (z : ℕ) (zs : List ℕ) (k : ℕ) → slice_index (z ∷ zs) (1 + k) ≡ slice_index zs k
     later z zs k = let e : 1 + k ≡ suc k = omega arith in ap (λ (j : ℕ). slice_index (z ∷ zs) j) e

@@ -1,13 +1,13 @@
 -- The rounds of a net whose pair is steered: which words change, and what the sums gain.
-use Rattle.std.proofs.Common.{◌≡◌, ◌≢◌, ℕ, zero, suc, ◌+◌, ◌-◌, ◌*◌, ◌/◌, ◌%◌, ◌<◌, ◌≤◌, ◌==◌, Bool, true, false, cond, if◌then◌else◌, not, List, [], ◌∷◌, ◌++◌, length, map, slice_index, sum_by, nat_eq, refl, sym, ◌∙◌, ap, ap₂, subst, inl, inr, arith, eqb-true, zero-le, true≢false}
+use Rattle.std.proofs.Common.{◌≡◌, ℕ, zero, suc, ◌+◌, ◌-◌, ◌*◌, ◌/◌, ◌%◌, ◌<◌, ◌≤◌, ◌==◌, Bool, true, false, cond, if◌then◌else◌, not, List, [], ◌++◌, length, map, slice_index, sum_by, nat_eq, refl, sym, ◌∙◌, ap, subst, inl, inr, arith, eqb-true, zero-le, true≢false}
 use Rattle.std.specs.List.{range_with_len}
 use Rattle.std.proofs.lemmas.Bool.{cases_Bool, ne_eqb}
 use Rattle.std.proofs.lemmas.List.FromFn.{fill_by_all, get_or-map-range_with_len, length-map-range_with_len}
 use Rattle.dc_spec.specs.Lists.{is_among}
-use Rattle.dc_spec.specs.Words.{IsWord, word_add, word_sum, zero_word}
+use Rattle.dc_spec.specs.Words.{IsWord, word_sum, zero_word}
 use Rattle.dc_spec.specs.Entries.{Stream}
 use Rattle.dc_spec.specs.Pads.{Pair}
-use Rattle.dc_spec.specs.Scripts.{Turn, Said, word_by_rule}
+use Rattle.dc_spec.specs.Scripts.{Turn, word_by_rule}
 use Rattle.dc_spec.specs.Net.{Net}
 use Rattle.dc_formats.specs.KeyFile.{IsPair}
 use Rattle.dc_station_rules.specs.Stations.{plain_word}
@@ -20,12 +20,12 @@ use Rattle.dc_spec.proofs.SumLemmas.{sum_by-map, sum_by-same, sum_by-plus, sum_b
 use Rattle.dc_net_rules.proofs.RunLemmas.{honest_below}
 use Rattle.dc_net_rules.proofs.RoundLemmas.{length-rounds_of, rounds_none, length-history, length-next_words}
 use Rattle.dc_steering_rules.specs.Steerings.{first_difference, steered_from, IsSteering, with_pair}
-use Rattle.dc_steering_rules.specs.Counting.{IsFixedTurn, MaySteer, heard_symbols}
+use Rattle.dc_steering_rules.specs.Counting.{MaySteer, heard_symbols}
 use Rattle.dc_steering_rules.proofs.SteeringLemmas.{below_or_past}
 use Rattle.dc_steering_rules.proofs.KeyChanges.{added_symbol, put_pair, key_part-changed}
 use Rattle.dc_steering_rules.proofs.SteeredKeys.{smaller-gain, larger-loss}
 use Rattle.dc_steering_rules.proofs.ReceivedWords.{remainders, rule_is_word, front_symbol, heard_are}
-use Rattle.dc_steering_rules.proofs.SameRuns.{with_pairs, same_next, same_rounds, same_first, same_histories, fixed_word}
+use Rattle.dc_steering_rules.proofs.SameRuns.{with_pairs, same_next, same_rounds, same_histories, fixed_word}
 
 -- pads k of a pair of a net that keep its words up to round s, and a steering by e from there on
 pub record Steers (net : Net) (k : Pair) (s : ℕ) (x y e : List ℕ) : Type 0 where

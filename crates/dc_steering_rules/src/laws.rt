@@ -1,7 +1,11 @@
 //! Laws of steerings. The functions do nothing; each one's contract is a law.
 
 ghost use Rattle.dc_steering_rules.specs.Laws.{
-    ComputedChangesSteer, KeyListsAreAsMany, OwnPadsAreListed, SteeredSumsAreWanted, SteeringsAreComputed,
+  ComputedChangesSteer,
+  KeyListsAreAsMany,
+  OwnPadsAreListed,
+  SteeredSumsAreWanted,
+  SteeringsAreComputed,
 };
 
 /// The computed changes of pads give every later sum its wanted change and leave the keys of the
