@@ -1,6 +1,7 @@
 -- Equally many key lists: where two honest neighbours first received different words in a round, the
 -- pads of their pair that give one list of later sums, and those that give another.
-use Rattle.std.specs.Prelude.{ℕ, ◌+◌, ◌*◌, ◌/◌, ◌<◌, ◌≡◌, List, [], length, drop, filter, find, unwrap_or, All}
+use Rattle.std.specs.Prelude.{ℕ, ◌+◌, ◌*◌, ◌/◌, ◌<◌, ◌≡◌, ◌≢◌, List, [], length, drop, filter, find, unwrap_or, slice_index_or, All}
+use Rattle.dc_spec.specs.Words.{zero_word}
 use Rattle.dc_spec.specs.Pads.{Pair}
 use Rattle.dc_spec.specs.Scripts.{Said, Turn, each}
 use Rattle.dc_spec.specs.Net.{Net}
@@ -56,3 +57,20 @@ steered_between net s k given wanted =
 abbrev pub own_pair : Net → ℕ → ℕ → Pair
 own_pair net u v =
     unwrap_or (find (has_ends u v) net.keys.pairs) (record { u = u; v = v; a = []; b = [] })
+
+-- the word of station i in round t of the run of a net
+abbrev pub word_said : Net → ℕ → ℕ → List ℕ
+word_said net t i = slice_index_or (run_of net).words (t * net.stations + i) zero_word
+
+-- of two nets of the same stations and words, each station but one says the same words
+abbrev pub OthersSayTheSame : Net → Net → ℕ → Type 0
+OthersSayTheSame net other v =
+    (t i : ℕ) → t < net.words → i < net.stations → i ≢ v
+    → word_said other t i ≡ word_said net t i
+
+-- another net of the same stations and words says the words of a net up to round s, its later sums
+-- are the wanted ones, and each station but v says the same words in all rounds
+pub record IsSteeredTo (net : Net) (v s : ℕ) (wanted : List (List ℕ)) (other : Net) : Type 0 where
+  pub early : published (rounds_of other (s + 1)) ≡ published (rounds_of net (s + 1))
+  pub later : drop (s + 1) (run_of other).sums ≡ wanted
+  pub others_same : OthersSayTheSame net other v
