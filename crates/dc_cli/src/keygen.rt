@@ -24,7 +24,8 @@ pub fn run_keygen<F: Shelf>(
     target: &str,
     shelf: &mut F,
 ) -> Outcome
-    ensures { MakesOf (keygen_making seed.now net.now target.now) (F.state shelf.old) (F.state shelf.new) result }
+    ensures { MakesOf (keygen_making seed.now net.now target.now)
+        (F.state shelf.old) (F.state shelf.new) result }
 {
     match keys_of_file(alloc, seed, net, shelf) {
         Ok(bytes) => write_file(alloc, shelf, target, bytes.as_slice()),

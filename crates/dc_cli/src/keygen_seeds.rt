@@ -24,7 +24,8 @@ pub fn run_keygen_seeds<F: Shelf>(
     target: &str,
     shelf: &mut F,
 ) -> Outcome
-    ensures { MakesOf (seeds_making seed.now net.now target.now) (F.state shelf.old) (F.state shelf.new) result }
+    ensures { MakesOf (seeds_making seed.now net.now target.now)
+        (F.state shelf.old) (F.state shelf.new) result }
 {
     match seeds_of_file(alloc, seed, net, shelf) {
         Ok(bytes) => write_file(alloc, shelf, target, bytes.as_slice()),

@@ -22,7 +22,8 @@ pub fn run_migrate<R: Threads + Sync, F: Shelf>(
     target: &str,
     shelf: &mut F,
 ) -> Outcome
-    ensures { MakesOf (migrate_making keys.now target.now) (F.state shelf.old) (F.state shelf.new) result }
+    ensures { MakesOf (migrate_making keys.now target.now)
+        (F.state shelf.old) (F.state shelf.new) result }
 {
     match pads_of_file(rt, alloc, keys, shelf) {
         Ok(bytes) => write_file(alloc, shelf, target, bytes.as_slice()),

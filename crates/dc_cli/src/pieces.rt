@@ -41,7 +41,8 @@ pub fn put_two_numbers<K: Sink>(
     second: &[u8],
     n: u64,
 ) -> Result<(), Failed>
-    ensures { Puts (numbered first.now m ++ numbered second.now n) (K.state out.old) (K.state out.new) result }
+    ensures { Puts (numbered first.now m ++ numbered second.now n)
+        (K.state out.old) (K.state out.new) result }
 {
     put_number(out, first, m)?;
     put_number(out, second, n)

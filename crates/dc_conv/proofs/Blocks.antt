@@ -7,7 +7,7 @@ use Rattle.std.proofs.lemmas.List.{length-append, drop-append-le, length-drop}
 use Rattle.std.proofs.lemmas.List.Elements.{All-append}
 use Rattle.dc_spec.specs.Words.{IsWord, AreWords}
 use Rattle.dc_key_rules.specs.PairKeys.{symbols, key_symbol}
-use Rattle.dc_keys.specs.StationPads.{StationPads}
+use Rattle.dc_keys.specs.StationPads.{StationPads, history_sum}
 use Rattle.dc_keys.proofs.Histories.{sum-front, sum-front_rest}
 use Rattle.dc_conv.specs.Mask.{MaskState, IsMask, StandsFor, session_words, block_start, running_sum}
 
@@ -20,7 +20,8 @@ running_sum-front : (pads : StationPads) (h more : List (List ℕ)) (t n : ℕ) 
 running_sum-front pads h more t n are le = ap (λ (x : ℕ). get_or pads.first n 0 + x) (sum-front pads.second h more t n are le)
 
 -- a running sum with the words of a rest
-running_sum-rest : (pads : StationPads) (h : List (List ℕ)) (m r n : ℕ) → AreWords h → m ≤ length h → running_sum pads h (m + r) n ≡ running_sum pads h m n + sum_by (λ k. get_or pads.second (n - 16 * m - k) 0 * get_or (symbols (drop m h)) k 0) (range_with_len 0 (16 * r))
+running_sum-rest : (pads : StationPads) (h : List (List ℕ)) (m r n : ℕ) → AreWords h → m ≤ length h
+    → running_sum pads h (m + r) n ≡ running_sum pads h m n + sum_by (λ k. get_or pads.second (n - 16 * m - k) 0 * get_or (symbols (drop m h)) k 0) (range_with_len 0 (16 * r))
 running_sum-rest pads h m r n are le = omega (arith, sum-front_rest pads.second h m r n are le)
 
 -- where a block is not full yet, no boundary moves
@@ -34,7 +35,8 @@ start_within : (taken t : ℕ) → block_start taken t ≤ taken
 start_within taken t = omega arith
 
 -- a word that does not fill its block
-pub StandsFor-more : (m : MaskState) (pads : StationPads) (h : List (List ℕ)) (w : List ℕ) (block : List (List ℕ)) → IsMask m → IsWord w → StandsFor m pads h → block ≡ m.block ++ w ∷ [] → length block < 32
+pub StandsFor-more : (m : MaskState) (pads : StationPads) (h : List (List ℕ)) (w : List ℕ) (block : List (List ℕ)) → IsMask m → IsWord w
+    → StandsFor m pads h → block ≡ m.block ++ w ∷ [] → length block < 32
     → StandsFor (record { second = m.second; sums = m.sums; block = block; taken = m.taken + 1 }) pads (h ++ w ∷ [])
 StandsFor-more m pads h w block mask word stands is short =
     let long : length block ≡ m.taken % 32 + 1 = ap (λ (b : List (List ℕ)). length b) is ∙ length-append m.block (w ∷ []) ∙ (let e = mask.rest in omega arith) in
@@ -44,9 +46,12 @@ StandsFor-more m pads h w block mask word stands is short =
     record {
       words = one_word h w stands.words word;
       taken = omega arith;
-      block = is ∙ ap (λ (b : List (List ℕ)). b ++ w ∷ []) stands.block ∙ sym (ap (λ (i : ℕ). drop i (h ++ w ∷ [])) same ∙ drop-append-le (32 * (length h / 32)) h (w ∷ []) (omega arith));
+      block = is ∙ ap (λ (b : List (List ℕ)). b ++ w ∷ []) stands.block
+          ∙ sym (ap (λ (i : ℕ). drop i (h ++ w ∷ [])) same ∙ drop-append-le (32 * (length h / 32)) h (w ∷ []) (omega arith));
       second = stands.second;
-      sums = λ n lt. stands.sums n lt ∙ running_sum-front pads h (w ∷ []) (block_start m.taken (n / 16)) n stands.words (let e = start_within m.taken (n / 16) in omega arith) ∙ ap (λ (t : ℕ). running_sum pads (h ++ w ∷ []) t n) (same_start m.taken (n / 16) (omega arith));
+      sums = λ n lt. stands.sums n lt
+          ∙ running_sum-front pads h (w ∷ []) (block_start m.taken (n / 16)) n stands.words (let e = start_within m.taken (n / 16) in omega arith)
+          ∙ ap (λ (t : ℕ). running_sum pads (h ++ w ∷ []) t n) (same_start m.taken (n / 16) (omega arith));
     }
 
 -- the boundary of a symbol before the end of a full block
@@ -64,20 +69,22 @@ start_is : (taken n : ℕ) → 16 * taken ≤ n → block_start taken (n / 16) �
 start_is taken n le = let e : min taken (n / 16) ≡ taken = omega arith in ap (λ (x : ℕ). 32 * (x / 32)) e
 
 -- what a sum has gained is what the last words of the history contribute
-gained : (pads : StationPads) (h : List (List ℕ)) (block : List (List ℕ)) (second : List ℕ) (m r n i sum was : ℕ) → AreWords h → m + r ≡ length h → block ≡ drop m h → second ≡ pads.second → n ≡ 16 * length h + i → was ≡ running_sum pads h m n
-    → sum ≡ was + sum_by (λ k. get_or second (16 * length block + i - k) 0 * get_or (symbols block) k 0) (range_with_len 0 (16 * length block)) → sum ≡ running_sum pads h (length h) n
+gained : (pads : StationPads) (h : List (List ℕ)) (block : List (List ℕ)) (second : List ℕ) (m r n i sum was : ℕ) → AreWords h → m + r ≡ length h
+    → block ≡ drop m h → second ≡ pads.second → n ≡ 16 * length h + i → was ≡ running_sum pads h m n
+    → sum ≡ was + history_sum second block (16 * length block + i) → sum ≡ running_sum pads h (length h) n
 gained pads h block second m r n i sum was are both is same place so_far grown =
     let long : length block ≡ r = ap (λ (b : List (List ℕ)). length b) is ∙ length-drop m h ∙ omega arith in
     let at : 16 * length block + i ≡ n - 16 * m = omega arith in
-    let rest : sum_by (λ k. get_or second (16 * length block + i - k) 0 * get_or (symbols block) k 0) (range_with_len 0 (16 * length block)) ≡ sum_by (λ k. get_or pads.second (n - 16 * m - k) 0 * get_or (symbols (drop m h)) k 0) (range_with_len 0 (16 * r)) =
+    let rest : history_sum second block (16 * length block + i) ≡ sum_by (λ k. get_or pads.second (n - 16 * m - k) 0 * get_or (symbols (drop m h)) k 0) (range_with_len 0 (16 * r)) =
     rw (at, long, is, same) refl in
-    grown ∙ ap (λ (x : ℕ). x + sum_by (λ k. get_or second (16 * length block + i - k) 0 * get_or (symbols block) k 0) (range_with_len 0 (16 * length block))) so_far ∙ ap (λ (x : ℕ). running_sum pads h m n + x) rest
+    grown ∙ ap (λ (x : ℕ). x + history_sum second block (16 * length block + i)) so_far ∙ ap (λ (x : ℕ). running_sum pads h m n + x) rest
     ∙ sym (running_sum-rest pads h m r n are (omega arith)) ∙ ap (λ (t : ℕ). running_sum pads h t n) both
 
 -- a word that fills its block
-pub StandsFor-block : (m : MaskState) (pads : StationPads) (h : List (List ℕ)) (w : List ℕ) (block none : List (List ℕ)) (sums : List ℕ) (at : ℕ) → IsMask m → IsWord w → StandsFor m pads h → block ≡ m.block ++ w ∷ [] → 32 ≤ length block → none ≡ [] → at ≡ 16 * (m.taken + 1) → length sums ≡ length m.sums
+pub StandsFor-block : (m : MaskState) (pads : StationPads) (h : List (List ℕ)) (w : List ℕ) (block none : List (List ℕ)) (sums : List ℕ) (at : ℕ)
+    → IsMask m → IsWord w → StandsFor m pads h → block ≡ m.block ++ w ∷ [] → 32 ≤ length block → none ≡ [] → at ≡ 16 * (m.taken + 1) → length sums ≡ length m.sums
     → ((n : ℕ) → n < at → get_or sums n 0 ≡ get_or m.sums n 0)
-    → ((i : ℕ) → at + i < length m.sums → get_or sums (at + i) 0 ≡ get_or m.sums (at + i) 0 + sum_by (λ k. get_or m.second (16 * length block + i - k) 0 * get_or (symbols block) k 0) (range_with_len 0 (16 * length block)))
+    → ((i : ℕ) → at + i < length m.sums → get_or sums (at + i) 0 ≡ get_or m.sums (at + i) 0 + history_sum m.second block (16 * length block + i))
     → StandsFor (record { second = m.second; sums = sums; block = none; taken = m.taken + 1 }) pads (h ++ w ∷ [])
 StandsFor-block m pads h w block none sums at mask word stands is full empty start as_many before added =
     let long : length block ≡ m.taken % 32 + 1 = ap (λ (b : List (List ℕ)). length b) is ∙ length-append m.block (w ∷ []) ∙ (let e = mask.rest in omega arith) in
@@ -85,28 +92,34 @@ StandsFor-block m pads h w block none sums at mask word stands is full empty sta
     let taken = stands.taken in
     let last : m.taken % 32 ≡ 31 = omega arith in
     let are = one_word h w stands.words word in
-    let block_is : block ≡ drop (32 * (length h / 32)) (h ++ w ∷ []) = is ∙ ap (λ (b : List (List ℕ)). b ++ w ∷ []) stands.block ∙ sym (drop-append-le (32 * (length h / 32)) h (w ∷ []) (omega arith)) in
+    let block_is : block ≡ drop (32 * (length h / 32)) (h ++ w ∷ []) = is ∙ ap (λ (b : List (List ℕ)). b ++ w ∷ []) stands.block
+    ∙ sym (drop-append-le (32 * (length h / 32)) h (w ∷ []) (omega arith)) in
     record {
       words = are;
       taken = omega arith;
       block = empty ∙ sym (drop_of_length-le (h ++ w ∷ []) (omega arith));
       second = stands.second;
       sums = λ n lt. elim (cases_lt n at) [
-        | inl less ↦ before n less ∙ stands.sums n (omega arith) ∙ running_sum-front pads h (w ∷ []) (block_start m.taken (n / 16)) n stands.words (let e = start_within m.taken (n / 16) in omega arith) ∙ ap (λ (t : ℕ). running_sum pads (h ++ w ∷ []) t n) (start_before m.taken n (omega arith))
+        | inl less ↦ before n less ∙ stands.sums n (omega arith)
+            ∙ running_sum-front pads h (w ∷ []) (block_start m.taken (n / 16)) n stands.words (let e = start_within m.taken (n / 16) in omega arith)
+            ∙ ap (λ (t : ℕ). running_sum pads (h ++ w ∷ []) t n) (start_before m.taken n (omega arith))
         | inr le ↦
             let place : at + (n - at) ≡ n = omega arith in
             let boundary : block_start m.taken (n / 16) ≡ 32 * (length h / 32) = start_is m.taken n (omega arith) ∙ ap (λ (t : ℕ). 32 * (t / 32)) taken in
-            let so_far : get_or m.sums n 0 ≡ running_sum pads (h ++ w ∷ []) (32 * (length h / 32)) n = stands.sums n (omega arith) ∙ ap (λ (t : ℕ). running_sum pads h t n) boundary ∙ running_sum-front pads h (w ∷ []) (32 * (length h / 32)) n stands.words (omega arith) in
+            let so_far : get_or m.sums n 0 ≡ running_sum pads (h ++ w ∷ []) (32 * (length h / 32)) n = stands.sums n (omega arith)
+            ∙ ap (λ (t : ℕ). running_sum pads h t n) boundary ∙ running_sum-front pads h (w ∷ []) (32 * (length h / 32)) n stands.words (omega arith) in
             let full_start : length (h ++ w ∷ []) ≡ block_start (m.taken + 1) (n / 16) = (let e = start_after m.taken n last (omega arith) in omega arith) in
-            let grown = subst (λ (x : ℕ). x < length m.sums → get_or sums x 0 ≡ get_or m.sums x 0 + sum_by (λ k. get_or m.second (16 * length block + (n - at) - k) 0 * get_or (symbols block) k 0) (range_with_len 0 (16 * length block))) place (added (n - at)) (omega arith) in
+            let grown = subst (λ (x : ℕ). x < length m.sums → get_or sums x 0 ≡ get_or m.sums x 0 + history_sum m.second block (16 * length block + (n - at))) place (added (n - at)) (omega arith) in
             gained pads (h ++ w ∷ []) block m.second (32 * (length h / 32)) 32 n (n - at) _ _ are (omega arith) block_is stands.second (omega arith) so_far grown
             ∙ ap (λ (t : ℕ). running_sum pads (h ++ w ∷ []) t n) full_start
       ];
     }
 
 -- the sums after a full block stay small
-pub IsMask-block : (m : MaskState) (w : List ℕ) (block none : List (List ℕ)) (sums : List ℕ) (at : ℕ) → IsMask m → m.taken < session_words m → block ≡ m.block ++ w ∷ [] → 32 ≤ length block → none ≡ [] → at ≡ 16 * (m.taken + 1) → length sums ≡ length m.sums
-    → ((n : ℕ) → n < at → get_or sums n 0 ≡ get_or m.sums n 0) → ((i : ℕ) → at + i < length m.sums → get_or sums (at + i) 0 ≤ get_or m.sums (at + i) 0 + 68719476736 * length block)
+pub IsMask-block : (m : MaskState) (w : List ℕ) (block none : List (List ℕ)) (sums : List ℕ) (at : ℕ) → IsMask m → m.taken < session_words m
+    → block ≡ m.block ++ w ∷ [] → 32 ≤ length block → none ≡ [] → at ≡ 16 * (m.taken + 1) → length sums ≡ length m.sums
+    → ((n : ℕ) → n < at → get_or sums n 0 ≡ get_or m.sums n 0)
+    → ((i : ℕ) → at + i < length m.sums → get_or sums (at + i) 0 ≤ get_or m.sums (at + i) 0 + 68719476736 * length block)
     → IsMask (record { second = m.second; sums = sums; block = none; taken = m.taken + 1 })
 IsMask-block m w block none sums at mask room is full empty start as_many before grown =
     let long : length block ≡ m.taken % 32 + 1 = ap (λ (b : List (List ℕ)). length b) is ∙ length-append m.block (w ∷ []) ∙ (let e = mask.rest in omega arith) in
@@ -136,11 +149,15 @@ IsMask-block m w block none sums at mask room is full empty start as_many before
 
 -- a total of a mask is the symbol of the key before it is reduced
 pub total-key_symbol : (m : MaskState) (pads : StationPads) (h : List (List ℕ)) (l total : ℕ) → IsMask m → StandsFor m pads h → m.taken < session_words m → l < 16
-    → total ≡ get_or m.sums (16 * m.taken + l) 0 + sum_by (λ k. get_or m.second (16 * length m.block + l - k) 0 * get_or (symbols m.block) k 0) (range_with_len 0 (16 * length m.block)) → total % 65537 ≡ key_symbol pads.first pads.second (symbols h) (16 * length h) (16 * length h + l)
+    → total ≡ get_or m.sums (16 * m.taken + l) 0 + history_sum m.second m.block (16 * length m.block + l)
+    → total % 65537 ≡ key_symbol pads.first pads.second (symbols h) (16 * length h) (16 * length h + l)
 total-key_symbol m pads h l total mask stands room lt is =
     let taken = stands.taken in
     let place : 16 * m.taken + l ≡ 16 * length h + l = omega arith in
-    let boundary : block_start m.taken ((16 * m.taken + l) / 16) ≡ 32 * (length h / 32) = start_is m.taken (16 * m.taken + l) (omega arith) ∙ ap (λ (t : ℕ). 32 * (t / 32)) taken in
+    let boundary : block_start m.taken ((16 * m.taken + l) / 16) ≡ 32 * (length h / 32) = start_is m.taken (16 * m.taken + l) (omega arith)
+    ∙ ap (λ (t : ℕ). 32 * (t / 32)) taken in
     let within : 16 * m.taken + l < length m.sums = let e = mask.as_many in omega arith in
-    let so_far : get_or m.sums (16 * m.taken + l) 0 ≡ running_sum pads h (32 * (length h / 32)) (16 * length h + l) = stands.sums (16 * m.taken + l) within ∙ ap (λ (t : ℕ). running_sum pads h t (16 * m.taken + l)) boundary ∙ ap (λ (n : ℕ). running_sum pads h (32 * (length h / 32)) n) place in
-    ap (λ (x : ℕ). x % 65537) (gained pads h m.block m.second (32 * (length h / 32)) (length h % 32) (16 * length h + l) l total _ stands.words (omega arith) stands.block stands.second refl so_far is)
+    let so_far : get_or m.sums (16 * m.taken + l) 0 ≡ running_sum pads h (32 * (length h / 32)) (16 * length h + l) = stands.sums (16 * m.taken + l) within
+    ∙ ap (λ (t : ℕ). running_sum pads h t (16 * m.taken + l)) boundary ∙ ap (λ (n : ℕ). running_sum pads h (32 * (length h / 32)) n) place in
+    ap (λ (x : ℕ). x % 65537)
+    (gained pads h m.block m.second (32 * (length h / 32)) (length h % 32) (16 * length h + l) l total _ stands.words (omega arith) stands.block stands.second refl so_far is)

@@ -1,10 +1,12 @@
-ghost use Rattle.dc_formats.specs.ScriptFile.{IsTurn};
+ghost use Rattle.std.specs.Prelude.{ℕ, ◌≡◌};
+ghost use Rattle.dc_formats.specs.ScriptFile.{IsTurn, turn_terms};
 
 use crate::answers::{done, fault_of};
-use dc_field::{Bytes, Word};
+use dc_field::{Bytes, Sym, Word, Words};
 use dc_graph::{Coalition, Graph};
 use dc_script::{
-    Dealt, Delivery, Round, Said, Script, ScriptFault, ScriptKind, quiet, read_script, script_text,
+    Dealt, Delivery, Round, Said, Script, ScriptFault, ScriptKind, Term, Terms, quiet, read_script,
+    rule_word, rule_word_over, script_text,
 };
 use itoa::Buffer;
 use std::alloc::Global;
@@ -97,7 +99,8 @@ fn scripts(rt: HostRuntime) {
 
 /// A round in which nobody says a word and all receive the sum.
 fn silent_round(alloc: Global) -> Round
-    ensures { IsTurn result }
+    ensures turn { (r : ℕ) → IsTurn r result }
+    ensures no_terms { turn_terms result ≡ 0 }
 {
     Round {
         says: Dealt::from_vec(Vec::new(alloc)),
@@ -108,16 +111,16 @@ fn silent_round(alloc: Global) -> Round
 #[test]
 fn scripts_that_are_made(rt: HostRuntime) {
     let alloc = rt.alloc();
-    let script = Script::empty(alloc);
+    let script = Script::empty(alloc, 2);
     let script = done(&rt, script.with_round(silent_round(alloc)));
     let script = done(&rt, script.with_round(silent_round(alloc)));
-    written(&rt, &script, b"dcscript 1\nround 0\nall\nround 1\nall\n");
+    written(&rt, &script, b"dcscript 2\nround 0\nall\nround 1\nall\n");
 }
 
 #[test]
 fn first_lines(rt: HostRuntime) {
     refused(&rt, "", 1, ScriptKind::Header);
-    refused(&rt, "dcscript 2\n", 1, ScriptKind::Header);
+    refused(&rt, "dcscript 3\n", 1, ScriptKind::Header);
     refused(&rt, "dcscript 1", 1, ScriptKind::NotText);
     refused(&rt, "dcscript\t1\n", 1, ScriptKind::NotText);
     refused(&rt, "dcscript 1\nround 0\nall", 3, ScriptKind::NotText);
@@ -216,4 +219,116 @@ fn quiet_coalition(rt: HostRuntime) {
         "dcscript 1\nround 0\nsay 1 W\nsay 3 W\nall\nround 1\nsay 1 W\nsay 3 W\nall\n",
     );
     written(&rt, &script, due.as_slice());
+}
+
+/// A script of version 2 in which a word that is said has a term, and one that is dealt has three.
+const RULED: &str =
+    "dcscript 2\nround 0\nsay 2 W\nadd 15 10000 0 0 15\nall\nround 1\nsay 2 W\nto 0 W\nto 1 W\n\
+add 0 00001 255 1 15\nadd 0 0ffff 65535 0 0\nadd 15 00001 0 1 0\n";
+
+#[test]
+fn scripts_with_rules(rt: HostRuntime) {
+    text_kept(&rt, RULED);
+    text_kept(&rt, "dcscript 2\n");
+    text_kept(&rt, "dcscript 2\nround 0\nsay 1 W\nall\n");
+}
+
+fn term_refused<R: AllocGlobal + Abort>(rt: &R, rest: &str, line: u32, kind: ScriptKind) {
+    let mut text = filled(rt, "dcscript 2\nround 0\nsay 2 W\n").into_vec();
+    done(rt, text.extend_from_slice(rest.as_bytes()));
+    let due = ScriptFault { line, kind };
+    assert_eq!(rt;
+        fault_of(rt, read_script(rt.alloc(), text.as_slice())),
+        Some(due)
+    );
+}
+
+#[test]
+fn forms_of_terms(rt: HostRuntime) {
+    refused(
+        &rt,
+        "dcscript 1\nround 0\nsay 2 W\nadd 0 00001 0 0 0\n",
+        4,
+        ScriptKind::Form,
+    );
+    term_refused(&rt, "add 16 00001 0 0 0\n", 4, ScriptKind::Form);
+    term_refused(&rt, "add 0 00000 0 0 0\n", 4, ScriptKind::Form);
+    term_refused(&rt, "add 0 10001 0 0 0\n", 4, ScriptKind::Form);
+    term_refused(&rt, "add 0 0000F 0 0 0\n", 4, ScriptKind::Form);
+    term_refused(&rt, "add 0 00001 65536 0 0\n", 4, ScriptKind::Form);
+    term_refused(&rt, "add 0 00001 0 4096 0\n", 4, ScriptKind::Form);
+    term_refused(&rt, "add 0 00001 0 0 16\n", 4, ScriptKind::Form);
+    term_refused(&rt, "add 0 00001 0 0\n", 4, ScriptKind::Form);
+    term_refused(&rt, "add 0 00001 0 0 0 \n", 4, ScriptKind::Form);
+}
+
+#[test]
+fn places_of_terms(rt: HostRuntime) {
+    let misplaced = ScriptKind::Misplaced;
+    refused(&rt, "dcscript 2\nadd 0 00001 0 0 0\n", 2, misplaced);
+    refused(
+        &rt,
+        "dcscript 2\nround 0\nadd 0 00001 0 0 0\n",
+        3,
+        misplaced,
+    );
+    refused(
+        &rt,
+        "dcscript 2\nround 0\nall\nadd 0 00001 0 9 0\n",
+        4,
+        misplaced,
+    );
+    let (told, round) = (1, 0);
+    term_refused(
+        &rt,
+        "add 1 00001 0 0 0\nadd 0 00001 0 1 0\n",
+        5,
+        ScriptKind::Late { told, round },
+    );
+    term_refused(
+        &rt,
+        "add 1 00001 0 0 0\nadd 1 00002 0 0 0\n",
+        5,
+        ScriptKind::Unordered,
+    );
+    term_refused(
+        &rt,
+        "add 1 00001 0 0 0\nadd 0 00001 1 0 1\n",
+        5,
+        ScriptKind::Unordered,
+    );
+}
+
+/// A word of zeros but for its symbol 15.
+fn last_symbol<R: Abort>(rt: &R, number: u32) -> Word {
+    let mut word = Word::zero();
+    word.set(15, done(rt, Sym::new(number).ok_or("it is a symbol")));
+    word
+}
+
+/// The rule takes back symbol 15 of station 0 in the same round: minus 1 times it is added.
+#[test]
+fn word_of_rule(rt: HostRuntime) {
+    let alloc = rt.alloc();
+    let factor = done(&rt, Sym::new(65536).ok_or("it is a symbol"));
+    let term = Term {
+        to: 15,
+        factor,
+        station: 0,
+        round: 0,
+        symbol: 15,
+    };
+    let said = Said {
+        station: 2,
+        word: last_symbol(&rt, 2),
+        terms: Terms::from_vec(done(&rt, Vec::from_slice(alloc, &[term]))),
+    };
+    let words = Words::from_vec(done(&rt, Vec::from_slice(alloc, &[last_symbol(&rt, 7)])));
+    let due = last_symbol(&rt, 65532);
+    assert_eq!(rt;
+        rule_word(&said, &words, 3).numbers().as_slice(),
+        due.numbers().as_slice()
+    );
+    let over = rule_word_over(&said, words.as_slice(), 3);
+    assert_eq!(rt; over.numbers().as_slice(), due.numbers().as_slice());
 }

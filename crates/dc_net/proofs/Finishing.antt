@@ -1,7 +1,6 @@
 -- What the seats have after the last round, one after the other.
-use Rattle.std.proofs.Common.{◌≡◌, ℕ, ◌+◌, ◌<◌, List, [], ◌∷◌, ◌++◌, length, map, refl, sym, ap, subst, ◌∙◌, arith, append_assoc}
+use Rattle.std.proofs.Common.{◌≡◌, ℕ, ◌<◌, List, [], ◌∷◌, ◌++◌, length, map, sym, ap, ◌∙◌, arith, append_assoc}
 use Rattle.std.proofs.lemmas.List.{length-map, length-append, map_push, append-nil}
-use Rattle.dc_spec.specs.Entries.{Entry}
 use Rattle.dc_station_rules.specs.Stations.{log_of, pending_counts, sent_of}
 use Rattle.dc_station.specs.Logs.{Kept}
 use Rattle.dc_station.specs.declared.phase.Pending.{Pending}

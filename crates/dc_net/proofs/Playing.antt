@@ -1,20 +1,19 @@
 -- The script of a net whose parts agree has what a run asks of it.
-use Rattle.std.proofs.Common.{◌≡◌, ℕ, ◌+◌, ◌*◌, ◌<◌, ◌≤◌, Bool, true, false, List, [], ◌∷◌, length, get_or, filter, nat_eq, refl, sym, ap, subst, ◌∙◌, arith, inl, inr, eqb-true, true≢false, All}
+use Rattle.std.proofs.Common.{◌≡◌, ℕ, ◌+◌, ◌*◌, ◌<◌, true, List, [], ◌∷◌, length, nat_eq, refl, sym, ap, subst, ◌∙◌, arith, inl, inr, eqb-true, true≢false, All}
 use Rattle.std.specs.List.{AllPairs, range_with_len}
 use Rattle.std.specs.List.Sorted.{IsStrictlyIncreasing}
 use Rattle.std.proofs.Math.Nat.{mul-le-mul_right}
 use Rattle.std.proofs.lemmas.Bool.{cases_Bool}
 use Rattle.std.proofs.lemmas.List.{length-map}
 use Rattle.std.proofs.lemmas.List.Elements.{All-head, All-tail, All-nil}
-use Rattle.std.proofs.lemmas.List.Kept.{AllPairs-from_increasing, IsStrictlyIncreasing-filter}
+use Rattle.std.proofs.lemmas.List.Kept.{AllPairs-from_increasing}
 use Rattle.dc_spec.specs.Lists.{is_among}
-use Rattle.dc_spec.specs.Scripts.{Term, Said, Delivery, all_sum, each, delivered_words, stations_of, Turn}
+use Rattle.dc_spec.specs.Scripts.{Said, Delivery, all_sum, each, delivered_words, stations_of}
 use Rattle.dc_spec.specs.Net.{Net}
 use Rattle.dc_spec.proofs.Booleans.{or_cases}
 use Rattle.dc_spec.proofs.ListLemmas.{in_range, kept_passes, passes_kept}
-use Rattle.dc_formats.specs.ScriptFile.{IsTerm, IsSaid, AreSaid, IsTurn, IsScript}
+use Rattle.dc_formats.specs.ScriptFile.{IsSaid, AreSaid, IsTurn, IsScript}
 use Rattle.dc_net_rules.specs.Runs.{honest_stations, script_turn}
-use Rattle.dc_net_rules.specs.Agreement.{Agrees}
 use Rattle.dc_net_rules.proofs.RisingLists.{same_rising}
 use Rattle.dc_net_rules.proofs.Agreeing.{all_agree, same_lists, says_match, dealt_match, say_terms, dealt_terms}
 use Rattle.dc_net.specs.Checked.{IsChecked}

@@ -1,15 +1,14 @@
 -- What is recorded after all rounds is the run.
-use Rattle.std.proofs.Common.{◌≡◌, ℕ, ◌+◌, ◌<◌, List, [], length, get_or, map, refl, sym, ap, ◌∙◌, arith}
-use Rattle.std.specs.List.{flat_map, range_with_len}
+use Rattle.std.proofs.Common.{◌≡◌, ℕ, ◌<◌, List, [], length, get_or, map, refl, sym, ap, ◌∙◌, arith}
 use Rattle.std.proofs.lemmas.List.{length-map, get_or-map, ext_get_or}
 use Rattle.std.proofs.lemmas.List.FromFn.{get_or-map-range_with_len}
 use Rattle.dc_spec.specs.Entries.{Entry}
 use Rattle.dc_spec.specs.Net.{Net, Run}
 use Rattle.dc_station_rules.specs.Stations.{log_of, pending_counts, sent_of}
-use Rattle.dc_net_rules.specs.Runs.{Round, honest_stations, station_stream, history, published, all_rounds, recorded, run_of}
+use Rattle.dc_net_rules.specs.Runs.{Round, honest_stations, station_stream, history, all_rounds, run_of}
 use Rattle.dc_net.specs.WordList.{Kept}
 use Rattle.dc_net.specs.Seat.{SeatState}
-use Rattle.dc_net.specs.Run.{seat_at, seats_after, heard_row, IsRecorded}
+use Rattle.dc_net.specs.Run.{seat_at, seats_after, IsRecorded}
 use Rattle.dc_net.specs.declared.book.Book.{Book}
 use Rattle.dc_net.proofs.SeatRounds.{length-seats}
 
@@ -20,9 +19,9 @@ of_stations net played g f d same =
     let count = length-seats net played in
     ext_get_or d (map g (seats_after net played)) (map f (honest_stations net)) (length-map (seats_after net played) g ∙ count ∙ sym (length-map (honest_stations net) f))
     (λ k within. (let low : k < length (honest_stations net) = let long = length-map (seats_after net played) g in omega arith in
-        get_or-map g (seats_after net played) k (seat_at net played k) d (omega arith)
-        ∙ ap g (get_or-map-range_with_len (seat_at net played) 0 (length (honest_stations net)) k k (seat_at net played k) low (omega arith))
-        ∙ same k ∙ sym (get_or-map f (honest_stations net) k 0 d low)))
+    get_or-map g (seats_after net played) k (seat_at net played k) d (omega arith)
+    ∙ ap g (get_or-map-range_with_len (seat_at net played) 0 (length (honest_stations net)) k k (seat_at net played k) low (omega arith))
+    ∙ same k ∙ sym (get_or-map f (honest_stations net) k 0 d low)))
 
 -- a run of these parts
 pub same_run : (w words s sums d delivered : List (List ℕ)) (l logs n sents : List (List Entry)) (p pending : List (ℕ × ℕ)) → w ≡ words → s ≡ sums → d ≡ delivered → l ≡ logs → n ≡ sents → p ≡ pending

@@ -1,19 +1,18 @@
 -- The seats of the honest stations, round after round.
-use Rattle.std.proofs.Common.{◌≡◌, ℕ, ◌+◌, ◌-◌, ◌*◌, ◌<◌, Bool, true, ltb, if◌then◌else◌, List, [], ◌∷◌, ◌++◌, length, get_or, map, take, refl, sym, ap, subst, ◌∙◌, arith, lt-ltb, All}
-use Rattle.std.specs.List.{flat_map, range_with_len}
+use Rattle.std.proofs.Common.{◌≡◌, ℕ, ◌+◌, ◌-◌, ◌*◌, ◌<◌, Bool, true, ltb, if◌then◌else◌, List, [], ◌∷◌, ◌++◌, length, get_or, map, take, sym, ap, subst, ◌∙◌, arith, lt-ltb, All}
+use Rattle.std.specs.List.{flat_map}
 use Rattle.std.proofs.Math.Nat.{mul-le-mul_right}
-use Rattle.std.proofs.lemmas.List.{length-map, length-append, get_or-map, get_or_default, length-take-le, get_or_push, get_or_append_left}
+use Rattle.std.proofs.lemmas.List.{length-map, length-append, get_or-map, length-take-le, get_or_push, get_or_append_left}
 use Rattle.std.proofs.lemmas.List.Concat.{get_or-flat_map}
 use Rattle.std.proofs.lemmas.List.FromFn.{get_or-map-range_with_len, length-map-range_with_len, fill_by_all}
 use Rattle.dc_spec.specs.Words.{zero_word}
 use Rattle.dc_spec.specs.Net.{Net}
-use Rattle.dc_net_rules.specs.Runs.{Round, word_of_station, honest_stations, history, station_word, station_stream, next_round, rounds_of}
+use Rattle.dc_net_rules.specs.Runs.{Round, word_of_station, honest_stations, history, station_stream, next_round, rounds_of}
 use Rattle.dc_net_rules.proofs.Agreeing.{all_agree}
 use Rattle.dc_net_rules.proofs.RoundLemmas.{length-rounds_of, rounds_more, pieces_more, history_more, length-history}
 use Rattle.dc_net.specs.Checked.{IsChecked}
 use Rattle.dc_net.specs.Rows.{AreWordsOf}
 use Rattle.dc_net.specs.Seat.{SeatState, seat_word, HearsNext, with_heard}
-use Rattle.dc_net.specs.WordList.{column}
 use Rattle.dc_net.specs.Run.{seat_at, seats_after, heard_row, honest_word}
 use Rattle.dc_net.proofs.Seats.{with_word}
 use Rattle.dc_net.proofs.Recording.{length-delivered}
@@ -60,13 +59,13 @@ hears_next net t j checked low place =
       session = omega arith;
       count = all ∙ (let e : (t + 1) * length (honest_stations net) ≡ t * length (honest_stations net) + length (honest_stations net) = omega arith in e) ∙ ap (λ (m : ℕ). m * length (honest_stations net) + length (honest_stations net)) (sym long);
       before = λ k less.
-      let early : k < length (rounds_of net t) = omega arith in
-      let next = next_round net (rounds_of net t) in
-      get_or-map (λ (round : Round). word_of_station round.received (get_or (honest_stations net) j 0)) (rounds_of net t) k (next_round net (rounds_of net t)) zero_word early
-      ∙ sym (delivered_at net (rounds_of net t) k j (next_round net (rounds_of net t)) early place)
-      ∙ sym (ap (λ (ws : List (List ℕ)). get_or ws (k * length (honest_stations net) + j) zero_word) (pieces_more (heard_row net) (rounds_of net t) (next_round net (rounds_of net t)))
-      ∙ get_or_front (flat_map (heard_row net) (rounds_of net t)) (heard_row net (next_round net (rounds_of net t))) (k * length (honest_stations net) + j)
-      (let size = length-delivered net (rounds_of net t) in let fits = mul-le-mul_right {m = k + 1} {n = length (rounds_of net t)} (length (honest_stations net)) (omega arith) in omega arith));
+          let early : k < length (rounds_of net t) = omega arith in
+          let next = next_round net (rounds_of net t) in
+          get_or-map (λ (round : Round). word_of_station round.received (get_or (honest_stations net) j 0)) (rounds_of net t) k (next_round net (rounds_of net t)) zero_word early
+          ∙ sym (delivered_at net (rounds_of net t) k j (next_round net (rounds_of net t)) early place)
+          ∙ sym (ap (λ (ws : List (List ℕ)). get_or ws (k * length (honest_stations net) + j) zero_word) (pieces_more (heard_row net) (rounds_of net t) (next_round net (rounds_of net t)))
+          ∙ get_or_front (flat_map (heard_row net) (rounds_of net t)) (heard_row net (next_round net (rounds_of net t))) (k * length (honest_stations net) + j)
+          (let size = length-delivered net (rounds_of net t) in let fits = mul-le-mul_right {m = k + 1} {n = length (rounds_of net t)} (length (honest_stations net)) (omega arith) in omega arith));
     }
   where
     get_or_front : (xs ys : List (List ℕ)) (m : ℕ) → m < length xs → get_or (xs ++ ys) m zero_word ≡ get_or xs m zero_word
@@ -92,14 +91,19 @@ next_seat net t j checked low place =
     let at : length (flat_map (heard_row net) (rounds_of net t ++ next_round net (rounds_of net t) ∷ [])) - length (honest_stations net) + j ≡ t * length (honest_stations net) + j =
     let e : (t + 1) * length (honest_stations net) ≡ t * length (honest_stations net) + length (honest_stations net) = omega arith in omega arith in
     let last : word_of_station (next_round net (rounds_of net t)).received (get_or (honest_stations net) j 0)
-        ≡ get_or (flat_map (heard_row net) (rounds_of net t ++ next_round net (rounds_of net t) ∷ [])) (length (flat_map (heard_row net) (rounds_of net t ++ next_round net (rounds_of net t) ∷ [])) - length (honest_stations net) + j) zero_word =
+    ≡ get_or (flat_map (heard_row net) (rounds_of net t ++ next_round net (rounds_of net t) ∷ [])) (length (flat_map (heard_row net) (rounds_of net t ++ next_round net (rounds_of net t) ∷ [])) - length (honest_stations net) + j) zero_word =
     sym (ap (λ (m : ℕ). get_or (flat_map (heard_row net) (rounds_of net t ++ next_round net (rounds_of net t) ∷ [])) m zero_word) at
     ∙ delivered_at net (rounds_of net t ++ next_round net (rounds_of net t) ∷ []) t j (next_round net (rounds_of net t)) (omega arith) place
     ∙ ap (λ (round : Round). word_of_station round.received (get_or (honest_stations net) j 0)) (get_or_push (rounds_of net t) (next_round net (rounds_of net t)) (next_round net (rounds_of net t)) t rounds)) in
     let received = with_word (flat_map (heard_row net) (rounds_of net t ++ next_round net (rounds_of net t) ∷ [])) (seat_at net (rounds_of net t) j) _ (hears_next net t j checked low place) last
     ∙ sym (history_more (rounds_of net t) (next_round net (rounds_of net t)) (get_or (honest_stations net) j 0)) in
     ap (λ (ws : List (List ℕ)). record {
-      stream = station_stream net (get_or (honest_stations net) j 0); keys = net.keys; station = get_or (honest_stations net) j 0; received = ws; place = j; seats = length (honest_stations net)
+      stream = station_stream net (get_or (honest_stations net) j 0);
+      keys = net.keys;
+      station = get_or (honest_stations net) j 0;
+      received = ws;
+      place = j;
+      seats = length (honest_stations net);
     }) received
 
 pub seats_taken : (net : Net) (t : ℕ) (heard : List (List ℕ)) → IsChecked net → t < net.words → heard ≡ flat_map (heard_row net) (rounds_of net (t + 1)) → map (with_heard heard) (seats_after net (rounds_of net t)) ≡ seats_after net (rounds_of net (t + 1))

@@ -3,7 +3,7 @@ use Rattle.std.specs.Prelude.{ℕ, ◌+◌, ◌*◌, ◌<◌, ◌≡◌, not, Li
 use Rattle.std.specs.List.{range_with_len}
 use Rattle.dc_spec.specs.Words.{zero_word}
 use Rattle.dc_spec.specs.Lists.{is_among}
-use Rattle.dc_spec.specs.Scripts.{Term, Said, Delivery, all_sum, each, rule_word}
+use Rattle.dc_spec.specs.Scripts.{Said, Delivery, all_sum, each, rule_word}
 
 -- the members of a coalition among so many stations, and the other stations, in rising order
 abbrev pub members_of : List ℕ → ℕ → List ℕ

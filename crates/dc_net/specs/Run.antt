@@ -1,12 +1,11 @@
 -- A run round by round: the seats of the honest stations, and what is recorded.
-use Rattle.std.specs.Prelude.{ℕ, ◌+◌, ◌*◌, ◌<◌, ◌≡◌, if◌then◌else◌, List, ◌++◌, length, map, flat_map, slice_index, All}
+use Rattle.std.specs.Prelude.{ℕ, ◌+◌, ◌*◌, ◌≡◌, if◌then◌else◌, List, ◌++◌, length, map, flat_map, slice_index, All}
 use Rattle.std.specs.List.{range_with_len}
 use Rattle.dc_spec.specs.Words.{zero_word}
 use Rattle.dc_spec.specs.Lists.{is_among}
-use Rattle.dc_spec.specs.Scripts.{Said, Delivery, each, delivered_words, stations_of, Turn, word_by_rule}
+use Rattle.dc_spec.specs.Scripts.{Said, each, delivered_words, stations_of, Turn, word_by_rule}
 use Rattle.dc_spec.specs.Net.{Net}
-use Rattle.dc_net_rules.specs.Runs.{Round, word_of_station, station_stream, script_turn, honest_stations, history, published, station_word}
-use Rattle.dc_net.specs.WordList.{Kept}
+use Rattle.dc_net_rules.specs.Runs.{Round, word_of_station, station_stream, honest_stations, history, published, station_word}
 use Rattle.dc_net.specs.Rows.{members_of, IsWithin}
 use Rattle.dc_net.specs.Seat.{SeatState}
 use Rattle.dc_net.specs.declared.book.Book.{Book}

@@ -18,7 +18,7 @@ disagreed net fault s p = record {
   gave = Gave-none (agreed net) s s refl refl (omega arith);
   found = p.found;
   differ = rw p.is_first refl;
-  is = p.told;
+  is = p.stands;
 }
 
 -- the parts were read and compared

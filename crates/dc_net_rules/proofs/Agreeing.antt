@@ -32,7 +32,7 @@ test_holds true d h = refl
 test_holds false d h = let clash : ⊥ = cc in absurd clash
 
 -- where nothing is found, each item fails
-none_found : {X : Type 0} (p : X → Bool) (xs : List X) → find p xs ≡ None → All (λ x. p x ≡ false) xs
+pub none_found : {X : Type 0} (p : X → Bool) (xs : List X) → find p xs ≡ None → All (λ x. p x ≡ false) xs
 none_found p [] h = λ k d within. absurd (omega arith)
 none_found p (x ∷ xs) h = (elim (p x) as (λ b. p x ≡ b → cond b (Some x) (find p xs) ≡ None → All (λ y. p y ≡ false) (x ∷ xs)) [
   | true ↦ λ e k. (let clash : ⊥ = cc in absurd clash)
@@ -51,6 +51,8 @@ none_passes p (x ∷ xs) h = let both = both_fail (p x) (list_any p xs) h in All
 
 -- each test of a net gives none
 pub record AllAgree (net : Net) : Type 0 where
+  pub key_stations : net.keys.stations ≡ net.stations
+  pub missing : missing_key net ≡ None
   pub words : net.keys.words ≡ net.words
   pub streams : All (λ i. stream_fault net i ≡ None) (range_with_len 0 net.stations)
   pub rounds : length net.script.rounds ≡ net.words
@@ -79,6 +81,8 @@ all_agree net agrees =
     let h = first_none t8 (t9 ∷ []) g.1 in
     let i = first_none t9 [] h.1 in
     record {
+      key_stations = eqb-true net.keys.stations net.stations (test_holds (net.keys.stations == net.stations) (key_stations net.keys.stations net.stations) a.0);
+      missing = c.0;
       words = eqb-true net.keys.words net.words (test_holds (net.keys.words == net.words) (key_words net.keys.words net.words) b.0);
       streams = none_along (stream_fault net) (range_with_len 0 net.stations) e.0;
       rounds = eqb-true (length net.script.rounds) net.words (test_holds (length net.script.rounds == net.words) (script_rounds (length net.script.rounds) net.words) f.0);

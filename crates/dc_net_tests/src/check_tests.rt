@@ -2,7 +2,7 @@ use crate::answers::done;
 use dc_graph::{Coalition, Graph};
 use dc_keyfile::generate;
 use dc_keys::KeyFile;
-use dc_net::{Net, NetFault, Streams};
+use dc_net::{CheckedNet, Net, NetFault, Streams};
 use dc_script::{Script, read_script};
 use dc_stream::Stream;
 use std::process::Abort;
@@ -11,21 +11,21 @@ use std::test::*;
 /// What a net is made of. The keys are generated for a key graph of their own; a station has an
 /// empty stream or none; in the script W stands for the zero word.
 #[derive(Clone, Copy)]
-struct Parts<'a> {
-    stations: u16,
-    edges: &'a [(u16, u16)],
-    members: &'a [u16],
-    key_stations: u16,
-    key_edges: &'a [(u16, u16)],
-    key_words: u16,
-    streams: &'a [bool],
-    script: &'a str,
-    words: u16,
+pub(crate) struct Parts<'a> {
+    pub(crate) stations: u16,
+    pub(crate) edges: &'a [(u16, u16)],
+    pub(crate) members: &'a [u16],
+    pub(crate) key_stations: u16,
+    pub(crate) key_edges: &'a [(u16, u16)],
+    pub(crate) key_words: u16,
+    pub(crate) streams: &'a [bool],
+    pub(crate) script: &'a str,
+    pub(crate) words: u16,
 }
 
 /// Three stations in a row, the last of which is the coalition. It sees the honest words of each
 /// round, and in the last one it deals a word to each honest station.
-fn agreed() -> Parts<'static> {
+pub(crate) fn agreed() -> Parts<'static> {
     Parts {
         stations: 3,
         edges: &[(0, 1), (1, 2)],
@@ -68,8 +68,8 @@ fn streams<R: AllocGlobal + Abort>(rt: &R, there: &[bool]) -> Streams {
     Streams::from_vec(streams)
 }
 
-/// The script of a text in which W stands for eighty zeros.
-fn script<R: AllocGlobal + Abort>(rt: &R, text: &str) -> Script {
+/// The bytes of a text in which W stands for eighty zeros.
+pub(crate) fn spelled<R: AllocGlobal + Abort>(rt: &R, text: &str) -> Vec<u8> {
     let mut bytes = Vec::new(rt.alloc());
     for c in text.as_bytes() {
         if *c == b'W' {
@@ -78,25 +78,41 @@ fn script<R: AllocGlobal + Abort>(rt: &R, text: &str) -> Script {
             done(rt, bytes.push(*c));
         }
     }
-    done(rt, read_script(rt.alloc(), bytes.as_slice()))
+    bytes
 }
 
-/// The fault of the net of these parts; None where they agree, and then the net is as it was.
-fn fault_of<R: AllocGlobal + Abort>(rt: &R, parts: &Parts) -> Option<NetFault> {
+/// The script of a text in which W stands for the zero word.
+fn script<R: AllocGlobal + Abort>(rt: &R, text: &str) -> Script {
+    done(rt, read_script(rt.alloc(), spelled(rt, text).as_slice()))
+}
+
+/// The net of these parts.
+pub(crate) fn net_of<R: AllocGlobal + Abort>(rt: &R, parts: &Parts) -> Net {
     let graph = done(rt, Graph::new(rt.alloc(), parts.stations, parts.edges));
     let coalition = done(rt, Coalition::new(rt.alloc(), &graph, parts.members));
-    let net = Net {
+    Net {
         graph,
         coalition,
         keys: keys(rt, parts),
         streams: streams(rt, parts.streams),
         script: script(rt, parts.script),
         words: parts.words,
-    };
-    checked(rt, net)
+    }
 }
 
-fn checked<R: Abort>(rt: &R, net: Net) -> Option<NetFault> {
+/// The fault of the net of these parts; None where they agree, and then the net is as it was.
+fn fault_of<R: AllocGlobal + Abort>(rt: &R, parts: &Parts) -> Option<NetFault> {
+    match checked(rt, net_of(rt, parts)) {
+        Ok(checked) => {
+            assert_eq!(rt; checked.net().words, parts.words);
+            None
+        }
+        Err(fault) => Some(fault),
+    }
+}
+
+/// The answer of the check of a net.
+pub(crate) fn checked<R: Abort>(rt: &R, net: Net) -> Result<CheckedNet, NetFault> {
     let stations = net.graph.stations();
     let members = net.coalition.members();
     if net.streams.as_slice().len() != usize::from(stations)
@@ -104,14 +120,7 @@ fn checked<R: Abort>(rt: &R, net: Net) -> Option<NetFault> {
     {
         panic!(rt; "a place for each station, and members that are stations");
     }
-    let words = net.words;
-    match net.check() {
-        Ok(checked) => {
-            assert_eq!(rt; checked.net().words, words);
-            None
-        }
-        Err(fault) => Some(fault),
-    }
+    net.check()
 }
 
 fn refused<R: AllocGlobal + Abort>(rt: &R, parts: Parts, due: NetFault) {

@@ -14,13 +14,13 @@ use Rattle.dc_spec.proofs.ListLemmas.{in_range, below_range, all_at, all_from}
 use Rattle.dc_graph_rules.proofs.GraphLemmas.{joined-walks}
 
 -- an item of a list stands in it
-stands : (xs : List ℕ) (k d : ℕ) → k < length xs → is_among xs (get_or xs k d) ≡ true
+pub stands : (xs : List ℕ) (k d : ℕ) → k < length xs → is_among xs (get_or xs k d) ≡ true
 stands [] k d low = absurd (omega arith)
 stands (x ∷ xs) zero d low = or_first (nat_eq x x) (is_among xs x) (eq-eqb x x refl)
 stands (x ∷ xs) (suc k) d low = or_second (nat_eq (get_or xs k d) x) (is_among xs (get_or xs k d)) (stands xs k d (omega arith))
 
 -- and what stands in it has a place
-place_in : (xs : List ℕ) (x : ℕ) → is_among xs x ≡ true → (k : ℕ) × (k < length xs) × (get_or xs k 0 ≡ x)
+pub place_in : (xs : List ℕ) (x : ℕ) → is_among xs x ≡ true → (k : ℕ) × (k < length xs) × (get_or xs k 0 ≡ x)
 place_in [] x there = absurd (true≢false (sym there))
 place_in (y ∷ ys) x there = elim (or_cases (nat_eq x y) (is_among ys x) there) [
   | inl same ↦ (zero, (omega arith), sym (eqb-true x y same))

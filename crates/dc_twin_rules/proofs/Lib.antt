@@ -1,1 +1,13 @@
 pub mod Admitting
+pub mod PlainSymbols
+pub mod KeyedSums
+pub mod Permuted
+pub mod PadSums
+pub mod TreeEdges
+pub mod Shifting
+pub mod KeyGains
+pub mod PartSums
+pub mod Histories
+pub mod Changes
+pub mod StationRounds
+pub mod Rounds

@@ -3,4 +3,4 @@
 
 mod laws;
 
-pub use laws::admits_as_computed;
+pub use laws::{admits_as_computed, twin_keeps_rounds};

@@ -4,3 +4,5 @@ pub mod ListSteps
 pub mod RoundText
 pub mod KnownPads
 pub mod ViewText
+pub mod GatherLemmas
+pub mod EntryLines

@@ -4,6 +4,7 @@ use Rattle.std.specs.Prelude.{zip}
 use Rattle.std.specs.List.{enumerate_from, flat_map, range_with_len}
 use Rattle.std.proofs.lemmas.List.Concat.{flat_map-append}
 use Rattle.std.proofs.lemmas.List.Elements.{filter-append}
+use Rattle.std.proofs.lemmas.List.FromFn.{get_or-enumerate_from}
 
 -- a range in two parts
 pub range-split : (a m n : ℕ) → range_with_len a (m + n) ≡ range_with_len a m ++ range_with_len (a + m) n
@@ -56,3 +57,9 @@ flat_map-range f a b c le le' =
     let next : a + (b - a) ≡ b = omega arith in
     rw parts (ap (flat_map f) (range-split a (b - a) (c - b) ∙ ap (λ (n : ℕ). range_with_len a (b - a) ++ range_with_len n (c - b)) next)
     ∙ flat_map-append f (range_with_len a (b - a)) (range_with_len b (c - b)))
+
+-- a place of items with their numbers
+pub get_or-enumerate : {X : Type 0} (xs : List X) (i : ℕ) (d : X) → i < length xs → get_or (enumerate_from 0 xs) i (0, d) ≡ (i, get_or xs i d)
+get_or-enumerate {X = X} xs i d low =
+    let same : 0 + i ≡ i = omega arith in
+    get_or-enumerate_from 0 xs i (0, d) low ∙ ap (λ (n : ℕ). (n, get_or xs i d)) same

@@ -41,7 +41,7 @@ PutSoFar-all whole rest s0 s1 e p =
     subst (λ (text : List ℕ). Puts text s0 s1 (Ok tt)) same p.put
 
 -- the texts of some items, then those of the others
-flat_map-split : {X : Type 0} (f : X → List ℕ) (n : ℕ) (xs : List X) → flat_map f xs ≡ flat_map f (take n xs) ++ flat_map f (drop n xs)
+pub flat_map-split : {X : Type 0} (f : X → List ℕ) (n : ℕ) (xs : List X) → flat_map f xs ≡ flat_map f (take n xs) ++ flat_map f (drop n xs)
 flat_map-split f n xs = ap (flat_map f) (sym (take-append-drop n xs)) ∙ flat_map-append f (take n xs) (drop n xs)
 
 -- the texts of some more items were put

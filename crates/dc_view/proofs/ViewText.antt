@@ -1,5 +1,5 @@
 -- The text of a view, and that of a net, in the pieces in which they are put.
-use Rattle.std.proofs.Common.{◌≡◌, ℕ, List, ◌++◌, filter, sym, ap, ◌∙◌, append_assoc}
+use Rattle.std.proofs.Common.{◌≡◌, ℕ, List, ◌++◌, filter, refl, append_assoc}
 use Rattle.std.specs.Prelude.{codes, decimal}
 use Rattle.std.specs.List.{enumerate_from, flat_map, range_with_len}
 use Rattle.dc_spec.specs.Lists.{is_among}
@@ -7,7 +7,9 @@ use Rattle.dc_spec.specs.Text.{line}
 use Rattle.dc_spec.specs.Net.{Net, Run}
 use Rattle.dc_spec.specs.Pads.{Pair}
 use Rattle.dc_spec.specs.Scripts.{Turn}
-use Rattle.dc_run_texts.specs.Coalition.{members, is_known}
+use Rattle.dc_net_rules.specs.Runs.{honest_stations}
+use Rattle.dc_run_texts.specs.Coalition.{is_known}
+use Rattle.dc_run_texts.specs.Logs.{honest_text, logs_text}
 use Rattle.dc_run_texts.specs.View.{edge_line, net_text, pair_lines, round_text, view_text}
 use Rattle.dc_view.specs.Pads.{known_lines}
 use Rattle.dc_view.proofs.KnownPads.{known-filtered}
@@ -44,3 +46,9 @@ pub view_text-pieces : (net : Net) (run : Run) (stations words : ℕ) (rounds : 
 unfolding view_text
 view_text-pieces net run stations words rounds e1 e2 e3 =
     rw (e1, e2, e3) (append_assoc (head_text net.stations net.words) (net_text net) (rounds_text net run net.script.rounds))
+
+-- logs: those of the honest stations
+pub logs_text-by_place : (net : Net) (run : Run) (honest : List ℕ) → honest ≡ honest_stations net
+    → logs_text net run ≡ flat_map (λ h. honest_text run h.0 h.1) (enumerate_from 0 honest)
+unfolding logs_text
+logs_text-by_place net run honest e = rw e refl

@@ -1,8 +1,11 @@
-//! Printed texts: the words of a session, and the view of a run.
+//! Printed texts: the words of a session, the view and the logs of a run.
 #![tactic(auto)]
 
 mod filling;
+mod gathering;
+mod honest;
 mod lines;
+mod logs;
 mod net_text;
 mod pads;
 mod pieces;
@@ -10,5 +13,6 @@ mod rounds;
 mod view;
 mod words;
 
+pub use logs::{put_logs, put_station};
 pub use view::put_view;
 pub use words::put_words;

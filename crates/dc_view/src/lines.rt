@@ -9,9 +9,9 @@ ghost use Rattle.dc_view.specs.Filling.{Fills};
 use crate::filling::{fill_bytes, fill_number};
 use dc_field::{Word, word_text};
 
-/// The most bytes of a line: a beginning of seven, three numbers with a blank after each, a word,
-/// a line feed.
-pub(crate) const LINE_BYTES: usize = 112;
+/// The most bytes of a line: a beginning of seven, three numbers of five digits with a blank after
+/// each, a word, a line feed.
+pub(crate) const LINE_BYTES: usize = 106;
 
 /// Fills in a beginning and a number.
 pub(crate) fn fill_number_line(buffer: &mut [u8], at: usize, beginning: &[u8], n: u16) -> usize

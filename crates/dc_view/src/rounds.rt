@@ -1,8 +1,7 @@
 //! The rounds of a run.
 
-ghost use Rattle.std.specs.Prelude.{◌≡◌, ◌+◌, ◌++◌, ◌*◌, ◌≤◌, ◌<◌, not, length, codes, decimal, filter, zip};
-ghost use Rattle.std.specs.List.{flat_map, enumerate_from, range_with_len};
-ghost use Rattle.dc_spec.specs.Lists.{is_among};
+ghost use Rattle.std.specs.Prelude.{◌≡◌, ◌+◌, ◌++◌, ◌*◌, ◌≤◌, ◌<◌, length, codes, decimal, zip};
+ghost use Rattle.std.specs.List.{flat_map, enumerate_from};
 ghost use Rattle.dc_spec.specs.Text.{line, word_text};
 ghost use Rattle.dc_edge.specs.Sink.{Puts};
 ghost use Rattle.dc_formats.specs.WordLines.{station_word_line, items_of_round};
@@ -11,17 +10,13 @@ ghost use Rattle.dc_run_texts.specs.View.{delivery_line, round_text};
 ghost use Rattle.dc_view.specs.Filling.{Fills};
 
 use crate::filling::fill_bytes;
+use crate::honest::{STATIONS, honest_of};
 use crate::lines::{LINE_BYTES, fill_number_line, fill_word_line};
 use crate::pieces::{fill_published, fill_received};
-use arrayvec::ArrayVec;
 use dc_edge::{Failed, Sink};
 use dc_field::Word;
-use dc_graph::Coalition;
 use dc_net::{Net, Played};
 use dc_script::{Delivery, Round, Script};
-
-/// How many stations a net has at most.
-const STATIONS: usize = 256;
 
 /// Puts all rounds of a run, two pieces a round.
 pub(crate) fn put_script<K: Sink>(
@@ -38,12 +33,7 @@ pub(crate) fn put_script<K: Sink>(
 }
 
 /// Puts the first rounds of a run.
-fn put_rounds<K: Sink>(
-    net: &Net,
-    run: &Played,
-    rounds: &[Round],
-    out: &mut K,
-) -> Result<(), Failed>
+fn put_rounds<K: Sink>(net: &Net, run: &Played, rounds: &[Round], out: &mut K) -> Result<(), Failed>
     requires most { length rounds.now ≤ 65535 }
     requires sums { length rounds.now ≤ length run.now.sums }
     ensures { Puts (flat_map (λ t. round_text net.now run.now t.0 t.1.delivery)
@@ -54,21 +44,6 @@ fn put_rounds<K: Sink>(
         put_round(net, run, honest.as_slice(), r as u16, round, out)?;
     }
     Ok(())
-}
-
-/// The stations that are no members, in rising order.
-fn honest_of(coalition: &Coalition, stations: u16) -> ArrayVec<u16, STATIONS>
-    requires { stations ≤ 256 }
-    ensures { result.items
-        ≡ filter (λ i. not (is_among coalition.now i)) (range_with_len 0 stations) }
-{
-    let mut honest = ArrayVec::new();
-    for i in 0..stations {
-        if !coalition.holds(i) {
-            honest.push(i);
-        }
-    }
-    honest
 }
 
 /// Puts a round: its published words, their sum, the kind of delivery, the received words.

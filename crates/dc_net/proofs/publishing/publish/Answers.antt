@@ -1,6 +1,6 @@
-use Rattle.std.proofs.Common.{◌≡◌, ◌+◌, ℕ, List, [], ◌++◌, length, take, subst, sym, ap, ◌∙◌, All}
+use Rattle.std.proofs.Common.{ℕ, List, ◌++◌, length, take, subst, sym, ap, ◌∙◌, All}
 use Rattle.dc_net.specs.WordList.{Kept}
-use Rattle.dc_net.specs.Rows.{members_of, others_of, AreWordsOf, IsWithin, rule_words}
+use Rattle.dc_net.specs.Rows.{IsWithin, rule_words}
 use Rattle.dc_net.proofs.RoundWords.{row_published}
 use Rattle.dc_net.proofs.publishing.publish.Goals as goal
 

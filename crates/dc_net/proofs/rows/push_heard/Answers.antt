@@ -1,4 +1,4 @@
-use Rattle.std.proofs.Common.{◌≡◌, length, List, subst, sym, ap, ◌∙◌, All}
+use Rattle.std.proofs.Common.{length, List, subst, sym, ap, ◌∙◌, All}
 use Rattle.dc_spec.specs.Scripts.{Said, delivered_words}
 use Rattle.dc_script.specs.Delivered.{delivered}
 use Rattle.dc_net.specs.Rows.{IsWithin}

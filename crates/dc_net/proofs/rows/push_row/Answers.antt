@@ -1,5 +1,5 @@
-use Rattle.std.proofs.Common.{◌≡◌, sym}
-use Rattle.dc_net.proofs.RowWalk.{Passed, Passed-member, Passed-other}
+use Rattle.std.proofs.Common.{sym}
+use Rattle.dc_net.proofs.RowWalk.{Passed-member, Passed-other}
 use Rattle.dc_net.proofs.rows.push_row.Goals.{then-holds, else-holds}
 use Rattle.dc_net.proofs.rows.push_row.Goals as goal
 

@@ -1,4 +1,4 @@
-use Rattle.std.proofs.Common.{◌≡◌, length, subst, sym}
+use Rattle.std.proofs.Common.{length, subst, sym}
 use Rattle.dc_spec.specs.Scripts.{Said}
 use Rattle.dc_net.specs.Rows.{IsWithin}
 use Rattle.dc_net.proofs.rows.push_rules.Goals as goal

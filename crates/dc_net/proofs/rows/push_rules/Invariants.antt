@@ -1,4 +1,4 @@
-use Rattle.std.proofs.Common.{◌≡◌, ◌+◌, List, ◌++◌, length, take}
+use Rattle.std.proofs.Common.{◌≡◌, ◌+◌, ◌++◌, length, take}
 use Rattle.dc_net.specs.Rows.{rule_words}
 use Rattle.dc_net.proofs.rows.push_rules.Given as goal
 

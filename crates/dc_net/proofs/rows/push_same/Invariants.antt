@@ -1,4 +1,4 @@
-use Rattle.std.proofs.Common.{◌≡◌, ◌+◌, List, ◌++◌, length, replicate}
+use Rattle.std.proofs.Common.{◌≡◌, ◌+◌, ◌++◌, length, replicate}
 use Rattle.dc_net.proofs.rows.push_same.Given as goal
 
 -- the word, so many times so far

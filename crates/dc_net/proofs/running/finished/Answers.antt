@@ -1,12 +1,10 @@
-use Rattle.std.proofs.Common.{◌≡◌, ℕ, List, [], ◌∷◌, ◌++◌, length, map, refl, subst, sym, ap, ◌∙◌, arith}
+use Rattle.std.proofs.Common.{map, sym, ap, ◌∙◌, arith}
 use Rattle.std.proofs.lemmas.List.{nil_from_length}
-use Rattle.dc_spec.specs.Entries.{Entry}
-use Rattle.dc_spec.specs.Net.{Run}
 use Rattle.dc_station_rules.specs.Stations.{log_of, pending_counts, sent_of}
 use Rattle.dc_station.specs.Logs.{Kept}
 use Rattle.dc_station.specs.declared.phase.Pending.{Pending}
 use Rattle.dc_net.specs.Seat.{SeatState}
-use Rattle.dc_net.proofs.Finishing.{EndedSoFar, EndedSoFar-more, room_left, all_ended}
+use Rattle.dc_net.proofs.Finishing.{EndedSoFar-more, room_left, all_ended}
 use Rattle.dc_net.proofs.RunIs.{same_run}
 use Rattle.dc_net.proofs.running.finished.Goals as goal
 

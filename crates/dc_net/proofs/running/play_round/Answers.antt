@@ -1,9 +1,9 @@
-use Rattle.std.proofs.Common.{◌≡◌, ℕ, List, length, map, subst, sym, ap, ◌∙◌, All}
+use Rattle.std.proofs.Common.{ℕ, List, length, map, subst, sym, ap, ◌∙◌, All}
 use Rattle.dc_net_rules.specs.Runs.{honest_stations, rounds_of}
 use Rattle.dc_net.specs.WordList.{Kept}
 use Rattle.dc_net.specs.Rows.{AreWordsOf}
 use Rattle.dc_net.specs.Seat.{SeatState, seat_word, with_heard, HearsNext}
-use Rattle.dc_net.specs.Run.{seats_after, honest_word}
+use Rattle.dc_net.specs.Run.{honest_word}
 use Rattle.dc_net.proofs.Playing.{playable}
 use Rattle.dc_net.proofs.SeatRounds.{seat_words, length-seats, all_hear, seats_taken}
 use Rattle.dc_net.proofs.running.play_round.Goals as goal

@@ -1,12 +1,11 @@
-use Rattle.std.proofs.Common.{◌≡◌, List, [], length, map, refl, sym, ap, subst, ◌∙◌, arith}
+use Rattle.std.proofs.Common.{◌≡◌, List, sym, ap, subst, ◌∙◌, arith}
 use Rattle.std.specs.Result.{IfOk}
 use Rattle.std.specs.Vec.{with_items}
 use Rattle.std.proofs.lemmas.List.{with_items_is}
 use Rattle.dc_spec.specs.Net.{Run}
-use Rattle.dc_net_rules.specs.Runs.{Round, rounds_of, run_of}
+use Rattle.dc_net_rules.specs.Runs.{Round, run_of}
 use Rattle.dc_net_rules.proofs.RoundLemmas.{rounds_none}
 use Rattle.dc_net.specs.Run.{IsRecorded, seats_after}
-use Rattle.dc_net.specs.declared.book.Book.{Book}
 use Rattle.dc_net.proofs.RunIs.{run_is}
 use Rattle.dc_net.proofs.running.run.Goals as goal
 

@@ -1,4 +1,4 @@
-use Rattle.std.proofs.Common.{◌≡◌, List, ◌++◌, map, take, drop}
+use Rattle.std.proofs.Common.{◌≡◌, ◌++◌, map, take, drop}
 use Rattle.dc_net.specs.Seat.{with_heard}
 use Rattle.dc_net.proofs.seating.take_in_turn.Given as goal
 

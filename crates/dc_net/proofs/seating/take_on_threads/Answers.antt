@@ -1,4 +1,4 @@
-use Rattle.std.proofs.Common.{◌≡◌, sym, ap, ◌∙◌}
+use Rattle.std.proofs.Common.{sym, ap, ◌∙◌}
 use Rattle.dc_net.specs.Seat.{with_heard}
 use Rattle.dc_net.proofs.SeatLists.{all_taken}
 use Rattle.dc_net.proofs.seating.take_on_threads.Goals as goal

@@ -15,6 +15,6 @@ pub loop-r-preserved : goal.loop-r-preserved
 loop-r-preserved g c = record {
   within = omega arith;
   put = PutSoFar-then _ _ _ _ _ _ _ _
-    (flat_map-range (λ r. pair_word_line c.args.beginning.now c.args.ends.0 c.args.ends.1 r (items_of_round 16 r c.args.pads.now)) c.loop-r.r c.min-next.result c.args.words (omega arith) (omega arith))
-    c.loop-r.invariant.put c.in_ok-put_rounds_of_pads.ensures;
+      (flat_map-range (λ r. pair_word_line c.args.beginning.now c.args.ends.0 c.args.ends.1 r (items_of_round 16 r c.args.pads.now)) c.loop-r.r c.min-next.result c.args.words (omega arith) (omega arith))
+      c.loop-r.invariant.put c.in_ok-put_rounds_of_pads.ensures;
 }

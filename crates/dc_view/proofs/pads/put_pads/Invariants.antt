@@ -10,8 +10,8 @@ abbrev pub invariant-loop-r : goal.invariant-loop-r
 invariant-loop-r g l = record {
   within : l.r ≤ l.words;
   put : PutSoFar (pad_lines l.beginning l.words l.ends.0 l.ends.1 l.pads)
-    (flat_map (λ r. pair_word_line l.beginning l.ends.0 l.ends.1 r (items_of_round 16 r l.pads)) (range_with_len l.r (l.words - l.r)))
-    (g.K.Sink.state l.initial.out) (g.K.Sink.state l.out);
+      (flat_map (λ r. pair_word_line l.beginning l.ends.0 l.ends.1 r (items_of_round 16 r l.pads)) (range_with_len l.r (l.words - l.r)))
+      (g.K.Sink.state l.initial.out) (g.K.Sink.state l.out);
 }
 
 abbrev pub decreases-loop-r : goal.decreases-loop-r

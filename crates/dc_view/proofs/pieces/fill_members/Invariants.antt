@@ -9,6 +9,6 @@ use Rattle.dc_view.proofs.pieces.fill_members.Given as goal
 -- the lines of the members so far are filled in
 abbrev pub invariant-loop-i : goal.invariant-loop-i
 invariant-loop-i l = record {
-  place : l.end ≤ 112 * l.i;
+  place : l.end ≤ 106 * l.i;
   filled : Fills (flat_map (λ i. line (codes "member " ++ decimal i)) (filter (is_among l.coalition) (range_with_len 0 l.i))) 0 l.initial.buffer l.buffer l.end;
 }

@@ -26,7 +26,7 @@ pub put_script-requires : goal.put_script-requires
 put_script-requires g c =
     let rounds : length c.net.inside.script.rounds ≡ length c.args.net.now.script.rounds = ap (λ (n : Net). length n.script.rounds) (c.net.view_is ∙ c.net-net.ensures.value) in
     let sums : length c.args.run.now.sums ≡ length c.args.net.now.script.rounds =
-      ap (λ (r : Run). length r.sums) c.requires ∙ length-sums c.args.net.now c.net-net.ensures.checked.agrees in
+    ap (λ (r : Run). length r.sums) c.requires ∙ length-sums c.args.net.now c.net-net.ensures.checked.agrees in
     omega arith
 
 pub returns : goal.returns

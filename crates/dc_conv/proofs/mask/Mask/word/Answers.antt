@@ -10,8 +10,12 @@ use Rattle.dc_conv.proofs.mask.Mask.word.Goals as goal
 pub returns-clause-summed : goal.returns-clause-summed
 returns-clause-summed c = λ pads history stands.
     c.reduced.ensures ∙ word_of-same _ _ (λ l lt.
-    let copied : get_or c.copy_from_slice.new.self l 0 ≡ get_or c.self.inside.sums (16 * c.self.inside.taken + l) 0 = rw (c.copy_from_slice.ensures.after, ← c.as_slice.ensures) (pad_in_piece c.as_slice.result.now _ (16 * c.from-at.result) l (omega arith) ∙ ap (λ (i : ℕ). get_or c.as_slice.result.now (16 * i + l) 0) c.from-at.ensures) in
-    total-key_symbol (record { second = c.self.inside.second; sums = c.self.inside.sums; block = c.self.inside.block; taken = c.self.inside.taken }) pads history l _ c.self.invariant (subst (λ (m : MaskState). StandsFor m pads history) (sym c.self.view_is) stands)
+    let copied : get_or c.copy_from_slice.new.self l 0 ≡ get_or c.self.inside.sums (16 * c.self.inside.taken + l) 0 =
+    rw (c.copy_from_slice.ensures.after, ← c.as_slice.ensures)
+    (pad_in_piece c.as_slice.result.now _ (16 * c.from-at.result) l (omega arith)
+    ∙ ap (λ (i : ℕ). get_or c.as_slice.result.now (16 * i + l) 0) c.from-at.ensures) in
+    total-key_symbol (record { second = c.self.inside.second; sums = c.self.inside.sums; block = c.self.inside.block; taken = c.self.inside.taken })
+    pads history l _ c.self.invariant (subst (λ (m : MaskState). StandsFor m pads history) (sym c.self.view_is) stands)
     (subst (λ (m : MaskState). m.taken < session_words m) (sym c.self.view_is) c.requires) lt
     (rw (← copied, ← c.as_slice-2.ensures.value, ← c.as_slice-3.ensures) (c.add_words.ensures.added l (omega arith))))
 

@@ -1,14 +1,13 @@
-use Rattle.std.proofs.Common.{◌≡◌, ℕ, ◌+◌, ◌*◌, ◌-◌, List, ◌++◌, length, take, drop, subst, sym, ap, ◌∙◌, arith, All}
+use Rattle.std.proofs.Common.{◌≡◌, ℕ, ◌+◌, ◌*◌, List, ◌++◌, length, drop, subst, sym, ap, ◌∙◌, arith, All}
 use Rattle.std.proofs.lemmas.List.{take_rest}
 use Rattle.dc_spec.specs.Words.{word_sum}
 use Rattle.dc_spec.specs.Net.{Net}
-use Rattle.dc_spec.specs.Scripts.{Said, Delivery, Turn, delivered_words, stations_of, each}
+use Rattle.dc_spec.specs.Scripts.{Said, Turn, delivered_words}
 use Rattle.dc_script.specs.Delivered.{delivered}
 use Rattle.dc_net_rules.specs.Runs.{script_turn, rounds_of, honest_stations}
 use Rattle.dc_net_rules.proofs.RoundLemmas.{length-rounds_of}
 use Rattle.dc_net.specs.Rows.{IsWithin, AreWordsOf, others_of, row_heard}
 use Rattle.dc_net.specs.Run.{honest_word, said_row}
-use Rattle.dc_net.specs.WordList.{Kept}
 use Rattle.dc_net.proofs.Recording.{words_before, room_for_words, room_for_sums, room_for_delivered, room_for_dealt, IsRecorded-more, IsRecorded-next}
 use Rattle.dc_net.proofs.book.Book.record.Goals as goal
 
