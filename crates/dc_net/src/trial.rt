@@ -73,7 +73,8 @@ fn trial_edges(alloc: Global, n: u16) -> Result<Vec<(u16, u16)>, NoMemory>
 /// Pushes the edges of a station with later ones.
 fn push_edges(edges: &mut Vec<(u16, u16)>, i: u16, n: u16) -> Result<(), NoMemory>
     requires { i < most_stations }
-    ensures { IfOk result (λ _. edges.new.items ≡ edges.old.items ++ filter (λ e. nat_lt e.1 n) (edges_of i)) }
+    ensures { IfOk result (λ _.
+        edges.new.items ≡ edges.old.items ++ filter (λ e. nat_lt e.1 n) (edges_of i)) }
 {
     push_edge(edges, i, i + 1, n)?;
     push_edge(edges, i, i + 2, n)?;
@@ -82,7 +83,8 @@ fn push_edges(edges: &mut Vec<(u16, u16)>, i: u16, n: u16) -> Result<(), NoMemor
 
 /// Pushes an edge, where its greater end is a station.
 fn push_edge(edges: &mut Vec<(u16, u16)>, i: u16, j: u16, n: u16) -> Result<(), NoMemory>
-    ensures { IfOk result (λ _. edges.new.items ≡ edges.old.items ++ filter (λ e. nat_lt e.1 n) ((i, j) ∷ [])) }
+    ensures { IfOk result (λ _.
+        edges.new.items ≡ edges.old.items ++ filter (λ e. nat_lt e.1 n) ((i, j) ∷ [])) }
 {
     if j < n {
         edges.push((i, j))?;
@@ -144,7 +146,8 @@ fn put_elements(bytes: &mut [u8], base: &[u8; 32], i: u16, from: u32, modulus: u
     requires few { length bytes.old < 256 }
     requires some { 1 ≤ modulus }
     requires most { modulus ≤ 256 }
-    ensures { bytes.new ≡ map (λ k. own_element base.now i (from + k) % modulus) (range_with_len 0 (length bytes.old)) }
+    ensures { bytes.new ≡
+        map (λ k. own_element base.now i (from + k) % modulus) (range_with_len 0 (length bytes.old)) }
 {
     for k in 0..bytes.len() {
         let own = element(base, i, i, from + k as u32).number();
