@@ -22,4 +22,5 @@ column_more heard received n j place count before =
 
 -- before the first row there are none
 pub column_none : (heard : List (List ℕ)) (n j : ℕ) → heard ≡ [] → column n j heard ≡ []
-column_none heard n j none = ap (λ (xs : List (List ℕ)). column n j xs) none ∙ ap (λ (m : ℕ). map (λ k. get_or {A = List ℕ} [] (k * n + j) zero_word) (range_with_len 0 m)) (zero-div n)
+column_none heard n j none = ap (λ (xs : List (List ℕ)). column n j xs) none
+    ∙ ap (λ (m : ℕ). map (λ k. get_or {A = List ℕ} [] (k * n + j) zero_word) (range_with_len 0 m)) (zero-div n)

@@ -34,7 +34,9 @@ pub members_are : (coalition : List ℕ) (n : ℕ) → IsStrictlyIncreasing coal
 members_are coalition n up below =
     same_rising coalition (members_of coalition n) (AllPairs-from_increasing coalition up) (kept_rise (is_among coalition) n)
     (λ a. elim (cases_Bool (is_among coalition a)) [
-      | inl member ↦ member ∙ sym (passes_kept (is_among coalition) (range_with_len 0 n) a (in_range 0 n a (omega arith) (let low = among_all (λ m. m < n) coalition a below member in omega arith)) member)
+      | inl member ↦ member
+          ∙ sym (passes_kept (is_among coalition) (range_with_len 0 n) a
+          (in_range 0 n a (omega arith) (let low = among_all (λ m. m < n) coalition a below member in omega arith)) member)
       | inr other ↦ elim (cases_Bool (is_among (members_of coalition n) a)) [
         | inl kept ↦ kept_passes (is_among coalition) (range_with_len 0 n) a kept ∙ sym kept
         | inr gone ↦ other ∙ sym gone
@@ -46,7 +48,8 @@ next_rise : (xs : List ℕ) → AllPairs (λ a b. a < b) xs → IsStrictlyIncrea
 next_rise xs up k within = up k (k + 1) 0 (omega arith) within
 
 -- a term that names no later round and a station of the net names a word that is there
-within : (n t : ℕ) (listed : List Said) → All (IsSaid t) listed → All (λ said. All (λ term. term.station < n) said.terms) listed → All (IsWithin (t * n + n) n) listed
+within : (n t : ℕ) (listed : List Said) → All (IsSaid t) listed → All (λ said. All (λ term. term.station < n) said.terms) listed
+    → All (IsWithin (t * n + n) n) listed
 within n t listed are named = λ k d low.
     let terms = (are k d low).are_terms in
     record {
@@ -62,7 +65,8 @@ dealt_within net t all_sum are named = All-nil (IsWithin (t * net.stations + net
 dealt_within net t (each dealt) are named = within net.stations t dealt (are dealt refl).are_said (named dealt refl)
 
 -- so each round can be played
-pub playable : (net : Net) (t : ℕ) → IsChecked net → IsScript net.script → IsStrictlyIncreasing net.coalition → t < net.words → IsPlayable net (t * net.stations) (script_turn net t)
+pub playable : (net : Net) (t : ℕ) → IsChecked net → IsScript net.script → IsStrictlyIncreasing net.coalition → t < net.words
+    → IsPlayable net (t * net.stations) (script_turn net t)
 playable net t checked script up low =
     let agrees = checked.agrees in
     let rounds = (all_agree net agrees).rounds in
@@ -72,6 +76,7 @@ playable net t checked script up low =
       as_many = sym (length-map (script_turn net t).says (λ said. said.station)) ∙ ap (λ (xs : List ℕ). length xs) says;
       members = says ∙ members_are net.coalition net.stations up checked.members;
       says = within net.stations t (script_turn net t).says turn.said.are_said (say_terms net agrees t low);
-      honest = λ dealt is. same_lists (stations_of dealt) (honest_stations net) (dealt_match net agrees t low dealt is) (turn.dealt_words dealt is).stations_rise (next_rise (honest_stations net) (kept_rise _ net.stations));
+      honest = λ dealt is. same_lists (stations_of dealt) (honest_stations net) (dealt_match net agrees t low dealt is)
+          (turn.dealt_words dealt is).stations_rise (next_rise (honest_stations net) (kept_rise _ net.stations));
       dealt = dealt_within net t (script_turn net t).delivery turn.dealt_words (dealt_terms net agrees t low);
     }

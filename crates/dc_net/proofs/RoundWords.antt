@@ -29,7 +29,8 @@ kept_rise p n = AllPairs-filter (λ a b. a < b) p (range_with_len 0 n) (range_ri
 -- each of them is below the end of the range, and passes
 pub kept_below : (p : ℕ → Bool) (n k : ℕ) → k < length (filter p (range_with_len 0 n)) → get_or (filter p (range_with_len 0 n)) k 0 < n
 kept_below p n k within =
-    let all : All (λ i. i < n) (range_with_len 0 n) = λ j d low. (let long = length-range_with_len 0 n in let is = get_or-range_with_len 0 n j d (omega arith) in omega arith) in
+    let all : All (λ i. i < n) (range_with_len 0 n) = λ j d low.
+    (let long = length-range_with_len 0 n in let is = get_or-range_with_len 0 n j d (omega arith) in omega arith) in
     All-filter p (λ i. i < n) (range_with_len 0 n) all k 0 within
 
 pub kept_pass : (p : ℕ → Bool) (n k : ℕ) → k < length (filter p (range_with_len 0 n)) → p (get_or (filter p (range_with_len 0 n)) k 0) ≡ true
@@ -63,7 +64,8 @@ word_found listed words n k d up within =
     ∙ ap (λ (o : Option Said). option_map_or (λ said. rule_word said words n) o zero_word) (rule_found listed k d up within)
 
 -- the words of rules are those of their stations
-pub rules_of_stations : (listed : List Said) (words : List (List ℕ)) (n : ℕ) (stations : List ℕ) → AllPairs (λ a b. a < b) stations → stations_of listed ≡ stations
+pub rules_of_stations : (listed : List Said) (words : List (List ℕ)) (n : ℕ) (stations : List ℕ) → AllPairs (λ a b. a < b) stations
+    → stations_of listed ≡ stations
     → AreWordsOf (word_by_rule listed words n) stations (rule_words listed words n)
 rules_of_stations listed words n stations up same = λ k within.
     let rises : AllPairs (λ a b. a < b) (stations_of listed) = subst (λ (xs : List ℕ). AllPairs (λ a b. a < b) xs) (sym same) up in
@@ -86,34 +88,46 @@ first_members coalition n f = λ k within.
     ap (λ (b : Bool). if b then zero_word else f (get_or (members_of coalition n) k 0)) (sym member)
 
 -- with them
-second_others : (coalition : List ℕ) (n : ℕ) (says : List Said) (before : List (List ℕ)) (f : ℕ → List ℕ) (honest : List (List ℕ)) → AreWordsOf f (others_of coalition n) honest
-    → AreWordsOf (λ i. if is_among coalition i then word_by_rule says (before ++ first_row coalition n f) n i else word_of_station (first_row coalition n f) i) (others_of coalition n) honest
+second_others : (coalition : List ℕ) (n : ℕ) (says : List Said) (before : List (List ℕ)) (f : ℕ → List ℕ) (honest : List (List ℕ))
+    → AreWordsOf f (others_of coalition n) honest
+    → AreWordsOf (λ i. if is_among coalition i then word_by_rule says (before ++ first_row coalition n f) n i else word_of_station
+    (first_row coalition n f) i) (others_of coalition n) honest
 second_others coalition n says before f honest are = λ k within.
     let i = get_or (others_of coalition n) k 0 in
     let other = not_true _ (kept_pass (λ x. not (is_among coalition x)) n k within) in
     let below = kept_below (λ x. not (is_among coalition x)) n k within in
     first_others coalition n f honest are k within
-    ∙ sym (get_or-map-range_with_len (λ x. if is_among coalition x then zero_word else f x) 0 n (get_or (others_of coalition n) k 0) (get_or (others_of coalition n) k 0) zero_word below (omega arith))
-    ∙ ap (λ (b : Bool). if b then word_by_rule says (before ++ first_row coalition n f) n (get_or (others_of coalition n) k 0) else word_of_station (first_row coalition n f) (get_or (others_of coalition n) k 0)) (sym other)
+    ∙ sym (get_or-map-range_with_len (λ x. if is_among coalition x then zero_word else f x) 0 n (get_or (others_of coalition n) k 0)
+    (get_or (others_of coalition n) k 0) zero_word below (omega arith))
+    ∙ ap (λ (b : Bool). if b then word_by_rule says (before ++ first_row coalition n f) n (get_or (others_of coalition n) k 0) else word_of_station
+    (first_row coalition n f) (get_or (others_of coalition n) k 0)) (sym other)
 
 second_members : (coalition : List ℕ) (n : ℕ) (says : List Said) (before : List (List ℕ)) (f : ℕ → List ℕ) → stations_of says ≡ members_of coalition n
-    → AreWordsOf (λ i. if is_among coalition i then word_by_rule says (before ++ first_row coalition n f) n i else word_of_station (first_row coalition n f) i) (members_of coalition n)
+    → AreWordsOf (λ i. if is_among coalition i then word_by_rule says (before ++ first_row coalition n f) n i else word_of_station
+    (first_row coalition n f) i) (members_of coalition n)
     (rule_words says (before ++ first_row coalition n f) n)
 second_members coalition n says before f same = λ k within.
     let member = kept_pass (is_among coalition) n k within in
     rules_of_stations says (before ++ first_row coalition n f) n (members_of coalition n) (kept_rise (is_among coalition) n) same k within
-    ∙ ap (λ (b : Bool). if b then word_by_rule says (before ++ first_row coalition n f) n (get_or (members_of coalition n) k 0) else word_of_station (first_row coalition n f) (get_or (members_of coalition n) k 0)) (sym member)
+    ∙ ap (λ (b : Bool). if b then word_by_rule says (before ++ first_row coalition n f) n (get_or (members_of coalition n) k 0) else word_of_station
+    (first_row coalition n f) (get_or (members_of coalition n) k 0)) (sym member)
 
 -- a row put at the end, removed, and put again with the words of the members
-pub row_published : (coalition : List ℕ) (n : ℕ) (says : List Said) (before honest first kept said second : List (List ℕ)) (f : ℕ → List ℕ) → AreWordsOf f (others_of coalition n) honest
+pub row_published : (coalition : List ℕ) (n : ℕ) (says : List Said) (before honest first kept said second : List (List ℕ)) (f : ℕ → List ℕ)
+    → AreWordsOf f (others_of coalition n) honest
     → stations_of says ≡ members_of coalition n
     → ((g : ℕ → List ℕ) → AreWordsOf g (others_of coalition n) honest → AreWordsOf g (members_of coalition n) [] → first ≡ before ++ map g (range_with_len 0 n))
     → said ≡ rule_words says first n → kept ≡ take (length before) first
-    → ((g : ℕ → List ℕ) → AreWordsOf g (others_of coalition n) honest → AreWordsOf g (members_of coalition n) said → second ≡ kept ++ map g (range_with_len 0 n))
+    → ((g : ℕ → List ℕ) → AreWordsOf g (others_of coalition n) honest → AreWordsOf g (members_of coalition n) said
+    → second ≡ kept ++ map g (range_with_len 0 n))
     → second ≡ before ++ said_row coalition n says before f
 row_published coalition n says before honest first kept said second f are same put_first is_said is_kept put_second =
     let one : first ≡ before ++ first_row coalition n f = put_first _ (first_others coalition n f honest are) (first_members coalition n f) in
-    let back : kept ≡ before = is_kept ∙ ap (λ (ws : List (List ℕ)). take (length before) ws) one ∙ take_at before (first_row coalition n f) (length before) refl in
+    let back : kept ≡ before = is_kept ∙ ap (λ (ws : List (List ℕ)). take (length before) ws) one
+    ∙ take_at before (first_row coalition n f) (length before) refl in
     let words : rule_words says (before ++ first_row coalition n f) n ≡ said = ap (λ (ws : List (List ℕ)). rule_words says ws n) (sym one) ∙ sym is_said in
-    put_second _ (second_others coalition n says before f honest are) (subst (λ (ws : List (List ℕ)). AreWordsOf (λ i. if is_among coalition i then word_by_rule says (before ++ first_row coalition n f) n i else word_of_station (first_row coalition n f) i) (members_of coalition n) ws) words (second_members coalition n says before f same))
+    put_second _ (second_others coalition n says before f honest are)
+    (subst (λ (ws : List (List ℕ)). AreWordsOf
+    (λ i. if is_among coalition i then word_by_rule says (before ++ first_row coalition n f) n i else word_of_station (first_row coalition n f) i)
+    (members_of coalition n) ws) words (second_members coalition n says before f same))
     ∙ ap (λ (ws : List (List ℕ)). ws ++ said_row coalition n says before f) back

@@ -50,7 +50,8 @@ one_more f start words w i so_far is =
     ∙ ap (λ (ws : List (List ℕ)). start ++ ws) (sym (map-range_with_len_more f 0 i i (omega arith)))
 
 -- a member, with its word
-pub Passed-member : (coalition : List ℕ) (n : ℕ) (honest said : List (List ℕ)) (start words more : Kept) (w : List ℕ) (i j k : ℕ) → Passed coalition n honest said start words i j k
+pub Passed-member : (coalition : List ℕ) (n : ℕ) (honest said : List (List ℕ)) (start words more : Kept) (w : List ℕ) (i j k : ℕ)
+    → Passed coalition n honest said start words i j k
     → i < n → is_among coalition i ≡ true → w ≡ get_or said k zero_word → more ≡ record { words = words.words ++ w ∷ []; room = words.room }
     → Passed coalition n honest said start more (i + 1) j (k + 1)
 Passed-member coalition n honest said start words more w i j k so_far below member is pushed =
@@ -64,11 +65,13 @@ Passed-member coalition n honest said start words more w i j k so_far below memb
       few_members = omega arith;
       room = ap (λ (l : Kept). l.room) pushed ∙ so_far.room;
       count = let e = so_far.count in ap (λ (l : Kept). length l.words) pushed ∙ length_push words.words w ∙ (omega arith);
-      row = λ f others members. ap (λ (l : Kept). l.words) pushed ∙ one_more f start.words words.words w i (so_far.row f others members) (is ∙ members k here.0 ∙ ap f here.1.0);
+      row = λ f others members. ap (λ (l : Kept). l.words) pushed
+          ∙ one_more f start.words words.words w i (so_far.row f others members) (is ∙ members k here.0 ∙ ap f here.1.0);
     }
 
 -- another station, with its word
-pub Passed-other : (coalition : List ℕ) (n : ℕ) (honest said : List (List ℕ)) (start words more : Kept) (w : List ℕ) (i j k : ℕ) → Passed coalition n honest said start words i j k
+pub Passed-other : (coalition : List ℕ) (n : ℕ) (honest said : List (List ℕ)) (start words more : Kept) (w : List ℕ) (i j k : ℕ)
+    → Passed coalition n honest said start words i j k
     → i < n → is_among coalition i ≡ false → w ≡ get_or honest j zero_word → more ≡ record { words = words.words ++ w ∷ []; room = words.room }
     → Passed coalition n honest said start more (i + 1) (j + 1) k
 Passed-other coalition n honest said start words more w i j k so_far below other is pushed =
@@ -82,5 +85,6 @@ Passed-other coalition n honest said start words more w i j k so_far below other
       few_members = omega arith;
       room = ap (λ (l : Kept). l.room) pushed ∙ so_far.room;
       count = let e = so_far.count in ap (λ (l : Kept). length l.words) pushed ∙ length_push words.words w ∙ (omega arith);
-      row = λ f others members. ap (λ (l : Kept). l.words) pushed ∙ one_more f start.words words.words w i (so_far.row f others members) (is ∙ others j here.0 ∙ ap f here.1.0);
+      row = λ f others members. ap (λ (l : Kept). l.words) pushed
+          ∙ one_more f start.words words.words w i (so_far.row f others members) (is ∙ others j here.0 ∙ ap f here.1.0);
     }

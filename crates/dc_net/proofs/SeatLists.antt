@@ -24,6 +24,11 @@ few_honest net =
     let all = length-range_with_len 0 net.stations in
     omega arith
 
+-- what a call left of a seat that it was given
+pub seat_left : (heard : List (List ℕ)) (more after argument seat : SeatState) → after ≡ more → after ≡ with_heard heard argument → argument ≡ seat
+    → more ≡ with_heard heard seat
+seat_left heard more after argument seat left call is = sym left ∙ call ∙ ap (with_heard heard) is
+
 -- where each seat has taken its word, all have
 pub all_taken : (heard : List (List ℕ)) (seats more : List SeatState) → length more ≡ length seats
     → ((i : ℕ) (d : SeatState) → i < length seats → get_or more i d ≡ with_heard heard (get_or seats i d)) → more ≡ map (with_heard heard) seats
@@ -38,44 +43,75 @@ pub record Seated (net : Net) (seats : List SeatState) (i : ℕ) : Type 0 where
   pub few : length seats ≤ length (honest_stations net)
 
 -- a station with a stream is the next honest station
-next_honest : (net : Net) (seats : List SeatState) (i : ℕ) (stream : Stream) → IsChecked net → i < net.stations → Seated net seats i → get_or net.streams i None ≡ Some stream
-    → (length seats < length (honest_stations net)) × ((get_or (honest_stations net) (length seats) 0 ≡ i) × (drop (length seats + 1) (honest_stations net) ≡ filter (λ x. not (is_among net.coalition x)) (range_with_len (i + 1) (net.stations - (i + 1)))))
+next_honest : (net : Net) (seats : List SeatState) (i : ℕ) (stream : Stream) → IsChecked net → i < net.stations → Seated net seats i
+    → get_or net.streams i None ≡ Some stream
+    → (length seats < length (honest_stations net)) ×
+    ((get_or (honest_stations net) (length seats) 0 ≡ i) ×
+    (drop (length seats + 1) (honest_stations net) ≡ filter (λ x. not (is_among net.coalition x)) (range_with_len (i + 1) (net.stations - (i + 1)))))
 next_honest net seats i stream checked below seated is =
     let there : not (is_among net.coalition i) ≡ true = sym (has_stream net checked.agrees i below) ∙ ap (λ (o : Option Stream). is_some o) is in
     passing (λ x. not (is_among net.coalition x)) (honest_stations net) net.stations i (length seats) below seated.rest there
 
 -- so there is room for its seat
-pub room_for_seat : (net : Net) (seats : List SeatState) (i : ℕ) (stream : Stream) → IsChecked net → i < net.stations → Seated net seats i → get_or net.streams i None ≡ Some stream → length seats < length (honest_stations net)
+pub room_for_seat : (net : Net) (seats : List SeatState) (i : ℕ) (stream : Stream) → IsChecked net → i < net.stations → Seated net seats i
+    → get_or net.streams i None ≡ Some stream → length seats < length (honest_stations net)
 room_for_seat net seats i stream checked below seated is = (next_honest net seats i stream checked below seated is).0
 
 -- its seat is next
-pub Seated-more : (net : Net) (seats : List SeatState) (i : ℕ) (stream : Stream) (seat : SeatState) → IsChecked net → i < net.stations → Seated net seats i → get_or net.streams i None ≡ Some stream
-    → seat ≡ record { stream = stream; keys = net.keys; station = i; received = []; place = length seats; seats = length (honest_stations net) } → Seated net (seats ++ seat ∷ []) (i + 1)
+pub Seated-more : (net : Net) (seats : List SeatState) (i : ℕ) (stream : Stream) (seat : SeatState) → IsChecked net → i < net.stations → Seated net seats i
+    → get_or net.streams i None ≡ Some stream
+    → seat ≡ record { stream = stream; keys = net.keys; station = i; received = []; place = length seats; seats = length (honest_stations net) }
+    → Seated net (seats ++ seat ∷ []) (i + 1)
 Seated-more net seats i stream seat checked below seated is seat_is =
     let here = next_honest net seats i stream checked below seated is in
     let none : Stream = record { shorts = []; longs = []; coins = [] } in
-    let at : ℕ → SeatState = λ k. record { stream = station_stream net k; keys = net.keys; station = k; received = []; place = length seats; seats = length (honest_stations net) } in
+    let at : ℕ → SeatState = λ k. record {
+      stream = station_stream net k;
+      keys = net.keys;
+      station = k;
+      received = [];
+      place = length seats;
+      seats = length
+          (honest_stations net);
+    } in
     let own : station_stream net i ≡ stream = ap (λ (o : Option Stream). unwrap_or o none) is in
     let same : seat ≡ seat_at net [] (length seats) =
-    seat_is ∙ ap (λ (s : Stream). record { stream = s; keys = net.keys; station = i; received = []; place = length seats; seats = length (honest_stations net) }) (sym own) ∙ ap at (sym here.1.0) in
+    seat_is ∙ ap (λ (s : Stream). record {
+      stream = s;
+      keys = net.keys;
+      station = i;
+      received = [];
+      place = length seats;
+      seats = length
+          (honest_stations net);
+    }) (sym own) ∙ ap at (sym here.1.0) in
     let long = length_push seats seat in
     record {
       rest = ap (λ (k : ℕ). drop k (honest_stations net)) long ∙ here.1.1;
-      seats_are = ap (λ (xs : List SeatState). xs ++ seat ∷ []) seated.seats_are ∙ ap (λ (s : SeatState). map (seat_at net []) (range_with_len 0 (length seats)) ++ s ∷ []) same
-          ∙ sym (map-range_with_len_more (seat_at net []) 0 (length seats) (length seats) (omega arith)) ∙ ap (λ (k : ℕ). map (seat_at net []) (range_with_len 0 k)) (sym long);
+      seats_are = ap (λ (xs : List SeatState). xs ++ seat ∷ []) seated.seats_are
+          ∙ ap (λ (s : SeatState). map (seat_at net []) (range_with_len 0 (length seats)) ++ s ∷ []) same
+          ∙ sym (map-range_with_len_more (seat_at net []) 0 (length seats) (length seats) (omega arith))
+          ∙ ap (λ (k : ℕ). map (seat_at net []) (range_with_len 0 k)) (sym long);
       few = let low = here.0 in omega arith;
     }
 
 -- a station without a stream is passed over
-pub Seated-past : (net : Net) (seats : List SeatState) (i : ℕ) → IsChecked net → i < net.stations → Seated net seats i → is_some (get_or net.streams i None) ≡ false → Seated net seats (i + 1)
+pub Seated-past : (net : Net) (seats : List SeatState) (i : ℕ) → IsChecked net → i < net.stations → Seated net seats i
+    → is_some (get_or net.streams i None) ≡ false → Seated net seats (i + 1)
 Seated-past net seats i checked below seated none =
     let away : not (is_among net.coalition i) ≡ false = sym (has_stream net checked.agrees i below) ∙ none in
-    record { rest = passed_over (λ x. not (is_among net.coalition x)) (honest_stations net) net.stations i (length seats) below seated.rest away; seats_are = seated.seats_are; few = seated.few }
+    record {
+      rest = passed_over (λ x. not (is_among net.coalition x)) (honest_stations net) net.stations i
+          (length seats) below seated.rest away;
+      seats_are = seated.seats_are;
+      few = seated.few;
+    }
 
 -- at the end all honest stations are seated
 pub all_seated : (net : Net) (seats : List SeatState) (i : ℕ) → net.stations ≤ i → Seated net seats i → seats ≡ seats_after net []
 all_seated net seats i past seated =
     let none : net.stations - i ≡ 0 = omega arith in
-    let left = sym (length-drop (length seats) (honest_stations net)) ∙ ap (λ (xs : List ℕ). length xs) (seated.rest ∙ ap (λ (k : ℕ). filter (λ x. not (is_among net.coalition x)) (range_with_len i k)) none) in
+    let left = sym (length-drop (length seats) (honest_stations net))
+    ∙ ap (λ (xs : List ℕ). length xs) (seated.rest ∙ ap (λ (k : ℕ). filter (λ x. not (is_among net.coalition x)) (range_with_len i k)) none) in
     let all : length seats ≡ length (honest_stations net) = let few = seated.few in omega arith in
     seated.seats_are ∙ ap (λ (k : ℕ). map (seat_at net []) (range_with_len 0 k)) all

@@ -18,7 +18,8 @@ use Rattle.dc_net.proofs.Seats.{with_word}
 use Rattle.dc_net.proofs.Recording.{length-delivered}
 
 -- the words of the seats are those of the honest stations
-pub seat_words : (net : Net) (t : ℕ) → IsChecked net → t < net.words → AreWordsOf (honest_word net (rounds_of net t)) (honest_stations net) (map seat_word (seats_after net (rounds_of net t)))
+pub seat_words : (net : Net) (t : ℕ) → IsChecked net → t < net.words
+    → AreWordsOf (honest_word net (rounds_of net t)) (honest_stations net) (map seat_word (seats_after net (rounds_of net t)))
 seat_words net t checked low = λ k within.
     let played = rounds_of net t in
     let i = get_or (honest_stations net) k 0 in
@@ -27,7 +28,8 @@ seat_words net t checked low = λ k within.
     let before : ltb (length (history (rounds_of net t) (get_or (honest_stations net) k 0))) net.keys.words ≡ true = lt-ltb _ _ (omega arith) in
     let count = length-map-range_with_len (seat_at net (rounds_of net t)) 0 (length (honest_stations net)) in
     get_or-map seat_word (seats_after net (rounds_of net t)) k (seat_at net (rounds_of net t) k) zero_word (omega arith)
-    ∙ ap seat_word (get_or-map-range_with_len (seat_at net (rounds_of net t)) 0 (length (honest_stations net)) k k (seat_at net (rounds_of net t) k) within (omega arith))
+    ∙ ap seat_word (get_or-map-range_with_len (seat_at net (rounds_of net t)) 0 (length (honest_stations net)) k k (seat_at net (rounds_of net t) k) within
+    (omega arith))
     ∙ ap (λ (b : Bool). if b then honest_word net (rounds_of net t) (get_or (honest_stations net) k 0) else zero_word) before
 
 -- all seats are there
@@ -36,7 +38,8 @@ length-seats net played = length-map-range_with_len (seat_at net played) 0 (leng
 
 -- a word that was delivered, by round and place
 delivered_at : (net : Net) (played : List Round) (k j : ℕ) (round : Round) → k < length played → j < length (honest_stations net)
-    → get_or (flat_map (heard_row net) played) (k * length (honest_stations net) + j) zero_word ≡ word_of_station (get_or played k round).received (get_or (honest_stations net) j 0)
+    → get_or (flat_map (heard_row net) played) (k * length (honest_stations net) + j) zero_word ≡ word_of_station (get_or played k round).received
+    (get_or (honest_stations net) j 0)
 delivered_at net played k j round low place =
     let first = length-delivered net (take k played) ∙ ap (λ (m : ℕ). m * length (honest_stations net)) (length-take-le k played (omega arith)) in
     let row = length-map (honest_stations net) (word_of_station (get_or played k round).received) in
@@ -53,49 +56,65 @@ hears_next net t j checked low place =
     let words = (all_agree net checked.agrees).words in
     let rounds = length-rounds_of net t in
     let long = length-history net t (get_or (honest_stations net) j 0) in
-    let all = length-delivered net (rounds_of net t ++ next_round net (rounds_of net t) ∷ []) ∙ ap (λ (m : ℕ). m * length (honest_stations net)) (length-append (rounds_of net t) (next_round net (rounds_of net t) ∷ []) ∙ ap (λ (m : ℕ). m + 1) rounds) in
+    let all = length-delivered net (rounds_of net t ++ next_round net (rounds_of net t) ∷ [])
+    ∙ ap (λ (m : ℕ). m * length (honest_stations net)) (length-append (rounds_of net t) (next_round net (rounds_of net t) ∷ [])
+    ∙ ap (λ (m : ℕ). m + 1) rounds) in
     record {
       place = place;
       session = omega arith;
-      count = all ∙ (let e : (t + 1) * length (honest_stations net) ≡ t * length (honest_stations net) + length (honest_stations net) = omega arith in e) ∙ ap (λ (m : ℕ). m * length (honest_stations net) + length (honest_stations net)) (sym long);
+      count = all ∙ (let e : (t + 1) * length (honest_stations net) ≡ t * length (honest_stations net) + length (honest_stations net) = omega arith in e)
+          ∙ ap (λ (m : ℕ). m * length (honest_stations net) + length (honest_stations net)) (sym long);
       before = λ k less.
           let early : k < length (rounds_of net t) = omega arith in
           let next = next_round net (rounds_of net t) in
-          get_or-map (λ (round : Round). word_of_station round.received (get_or (honest_stations net) j 0)) (rounds_of net t) k (next_round net (rounds_of net t)) zero_word early
+          get_or-map (λ (round : Round). word_of_station round.received (get_or (honest_stations net) j 0)) (rounds_of net t) k
+          (next_round net (rounds_of net t)) zero_word early
           ∙ sym (delivered_at net (rounds_of net t) k j (next_round net (rounds_of net t)) early place)
-          ∙ sym (ap (λ (ws : List (List ℕ)). get_or ws (k * length (honest_stations net) + j) zero_word) (pieces_more (heard_row net) (rounds_of net t) (next_round net (rounds_of net t)))
+          ∙ sym (ap (λ (ws : List (List ℕ)). get_or ws (k * length (honest_stations net) + j) zero_word)
+          (pieces_more (heard_row net) (rounds_of net t) (next_round net (rounds_of net t)))
           ∙ get_or_front (flat_map (heard_row net) (rounds_of net t)) (heard_row net (next_round net (rounds_of net t))) (k * length (honest_stations net) + j)
-          (let size = length-delivered net (rounds_of net t) in let fits = mul-le-mul_right {m = k + 1} {n = length (rounds_of net t)} (length (honest_stations net)) (omega arith) in omega arith));
+          (let size = length-delivered net (rounds_of net t) in let fits = mul-le-mul_right {m = k + 1} {n = length (rounds_of net t)}
+          (length (honest_stations net)) (omega arith) in omega arith));
     }
   where
     get_or_front : (xs ys : List (List ℕ)) (m : ℕ) → m < length xs → get_or (xs ++ ys) m zero_word ≡ get_or xs m zero_word
     get_or_front xs ys m less = get_or_append_left xs ys zero_word m less
 
 -- so each seat does
-pub all_hear : (net : Net) (t : ℕ) (heard : List (List ℕ)) → IsChecked net → t < net.words → heard ≡ flat_map (heard_row net) (rounds_of net (t + 1)) → All (HearsNext heard) (seats_after net (rounds_of net t))
+pub all_hear : (net : Net) (t : ℕ) (heard : List (List ℕ)) → IsChecked net → t < net.words → heard ≡ flat_map (heard_row net) (rounds_of net (t + 1))
+    → All (HearsNext heard) (seats_after net (rounds_of net t))
 all_hear net t heard checked low is = λ k d within.
     let place : k < length (honest_stations net) = let count = length-seats net (rounds_of net t) in omega arith in
-    let all : flat_map (heard_row net) (rounds_of net t ++ next_round net (rounds_of net t) ∷ []) ≡ heard = sym (is ∙ ap (λ (played : List Round). flat_map (heard_row net) played) (rounds_more net t)) in
-    let here : HearsNext heard (seat_at net (rounds_of net t) k) = subst (λ (ws : List (List ℕ)). HearsNext ws (seat_at net (rounds_of net t) k)) all (hears_next net t k checked low place) in
-    subst (λ (seat : SeatState). HearsNext heard seat) (sym (get_or-map-range_with_len (seat_at net (rounds_of net t)) 0 (length (honest_stations net)) k k d place (omega arith))) here
+    let all : flat_map (heard_row net) (rounds_of net t ++ next_round net (rounds_of net t) ∷ []) ≡ heard = sym (is
+    ∙ ap (λ (played : List Round). flat_map (heard_row net) played) (rounds_more net t)) in
+    let here : HearsNext heard (seat_at net (rounds_of net t) k) = subst (λ (ws : List (List ℕ)). HearsNext ws (seat_at net (rounds_of net t) k)) all
+    (hears_next net t k checked low place) in
+    subst (λ (seat : SeatState). HearsNext heard seat)
+    (sym (get_or-map-range_with_len (seat_at net (rounds_of net t)) 0 (length (honest_stations net)) k k d place (omega arith))) here
 
 -- and has then received the words of one round more
 next_seat : (net : Net) (t j : ℕ) → IsChecked net → t < net.words → j < length (honest_stations net)
-    → with_heard (flat_map (heard_row net) (rounds_of net t ++ next_round net (rounds_of net t) ∷ [])) (seat_at net (rounds_of net t) j) ≡ seat_at net (rounds_of net t ++ next_round net (rounds_of net t) ∷ []) j
+    → with_heard (flat_map (heard_row net) (rounds_of net t ++ next_round net (rounds_of net t) ∷ [])) (seat_at net (rounds_of net t) j) ≡ seat_at net
+    (rounds_of net t ++ next_round net (rounds_of net t) ∷ []) j
 next_seat net t j checked low place =
     let next = next_round net (rounds_of net t) in
     let i = get_or (honest_stations net) j 0 in
     let rounds = length-rounds_of net t in
     let long = length-append (rounds_of net t) (next_round net (rounds_of net t) ∷ []) in
-    let all = length-delivered net (rounds_of net t ++ next_round net (rounds_of net t) ∷ []) ∙ ap (λ (m : ℕ). m * length (honest_stations net)) (long ∙ ap (λ (m : ℕ). m + 1) rounds) in
-    let at : length (flat_map (heard_row net) (rounds_of net t ++ next_round net (rounds_of net t) ∷ [])) - length (honest_stations net) + j ≡ t * length (honest_stations net) + j =
+    let all = length-delivered net (rounds_of net t ++ next_round net (rounds_of net t) ∷ [])
+    ∙ ap (λ (m : ℕ). m * length (honest_stations net)) (long ∙ ap (λ (m : ℕ). m + 1) rounds) in
+    let at : length (flat_map (heard_row net) (rounds_of net t ++ next_round net (rounds_of net t) ∷ [])) - length (honest_stations net) + j ≡ t * length
+    (honest_stations net) + j =
     let e : (t + 1) * length (honest_stations net) ≡ t * length (honest_stations net) + length (honest_stations net) = omega arith in omega arith in
     let last : word_of_station (next_round net (rounds_of net t)).received (get_or (honest_stations net) j 0)
-    ≡ get_or (flat_map (heard_row net) (rounds_of net t ++ next_round net (rounds_of net t) ∷ [])) (length (flat_map (heard_row net) (rounds_of net t ++ next_round net (rounds_of net t) ∷ [])) - length (honest_stations net) + j) zero_word =
+    ≡ get_or (flat_map (heard_row net) (rounds_of net t ++ next_round net (rounds_of net t) ∷ []))
+    (length (flat_map (heard_row net) (rounds_of net t ++ next_round net (rounds_of net t) ∷ [])) - length (honest_stations net) + j) zero_word =
     sym (ap (λ (m : ℕ). get_or (flat_map (heard_row net) (rounds_of net t ++ next_round net (rounds_of net t) ∷ [])) m zero_word) at
     ∙ delivered_at net (rounds_of net t ++ next_round net (rounds_of net t) ∷ []) t j (next_round net (rounds_of net t)) (omega arith) place
-    ∙ ap (λ (round : Round). word_of_station round.received (get_or (honest_stations net) j 0)) (get_or_push (rounds_of net t) (next_round net (rounds_of net t)) (next_round net (rounds_of net t)) t rounds)) in
-    let received = with_word (flat_map (heard_row net) (rounds_of net t ++ next_round net (rounds_of net t) ∷ [])) (seat_at net (rounds_of net t) j) _ (hears_next net t j checked low place) last
+    ∙ ap (λ (round : Round). word_of_station round.received (get_or (honest_stations net) j 0))
+    (get_or_push (rounds_of net t) (next_round net (rounds_of net t)) (next_round net (rounds_of net t)) t rounds)) in
+    let received = with_word (flat_map (heard_row net) (rounds_of net t ++ next_round net (rounds_of net t) ∷ [])) (seat_at net (rounds_of net t) j) _
+    (hears_next net t j checked low place) last
     ∙ sym (history_more (rounds_of net t) (next_round net (rounds_of net t)) (get_or (honest_stations net) j 0)) in
     ap (λ (ws : List (List ℕ)). record {
       stream = station_stream net (get_or (honest_stations net) j 0);
@@ -106,15 +125,19 @@ next_seat net t j checked low place =
       seats = length (honest_stations net);
     }) received
 
-pub seats_taken : (net : Net) (t : ℕ) (heard : List (List ℕ)) → IsChecked net → t < net.words → heard ≡ flat_map (heard_row net) (rounds_of net (t + 1)) → map (with_heard heard) (seats_after net (rounds_of net t)) ≡ seats_after net (rounds_of net (t + 1))
+pub seats_taken : (net : Net) (t : ℕ) (heard : List (List ℕ)) → IsChecked net → t < net.words → heard ≡ flat_map (heard_row net) (rounds_of net (t + 1))
+    → map (with_heard heard) (seats_after net (rounds_of net t)) ≡ seats_after net (rounds_of net (t + 1))
 seats_taken net t heard checked low is =
-    let all : flat_map (heard_row net) (rounds_of net t ++ next_round net (rounds_of net t) ∷ []) ≡ heard = sym (is ∙ ap (λ (played : List Round). flat_map (heard_row net) played) (rounds_more net t)) in
+    let all : flat_map (heard_row net) (rounds_of net t ++ next_round net (rounds_of net t) ∷ []) ≡ heard = sym (is
+    ∙ ap (λ (played : List Round). flat_map (heard_row net) played) (rounds_more net t)) in
     let count = length-seats net (rounds_of net t) in
     let one : map (with_heard heard) (seats_after net (rounds_of net t)) ≡ seats_after net (rounds_of net t ++ next_round net (rounds_of net t) ∷ []) =
-    fill_by_all (seat_at net (rounds_of net t ++ next_round net (rounds_of net t) ∷ [])) (map (with_heard heard) (seats_after net (rounds_of net t))) (length (honest_stations net)) (seat_at net (rounds_of net t) 0)
+    fill_by_all (seat_at net (rounds_of net t ++ next_round net (rounds_of net t) ∷ [])) (map (with_heard heard) (seats_after net (rounds_of net t)))
+    (length (honest_stations net)) (seat_at net (rounds_of net t) 0)
     (length-map (seats_after net (rounds_of net t)) (with_heard heard) ∙ count)
     (λ k place.
     get_or-map (with_heard heard) (seats_after net (rounds_of net t)) k (seat_at net (rounds_of net t) 0) (seat_at net (rounds_of net t) 0) (omega arith)
-    ∙ ap (with_heard heard) (get_or-map-range_with_len (seat_at net (rounds_of net t)) 0 (length (honest_stations net)) k k (seat_at net (rounds_of net t) 0) place (omega arith))
+    ∙ ap (with_heard heard)
+    (get_or-map-range_with_len (seat_at net (rounds_of net t)) 0 (length (honest_stations net)) k k (seat_at net (rounds_of net t) 0) place (omega arith))
     ∙ sym (ap (λ (ws : List (List ℕ)). with_heard ws (seat_at net (rounds_of net t) k)) all) ∙ next_seat net t k checked low place) in
     one ∙ ap (λ (played : List Round). seats_after net played) (sym (rounds_more net t))

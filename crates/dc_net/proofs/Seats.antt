@@ -12,18 +12,21 @@ use Rattle.dc_net.specs.Seat.{SeatState, SeatStandsFor, seat_word, HearsNext, wi
 use Rattle.dc_net.proofs.Columns.{column_more}
 
 -- the seat received the word at its place in the last row
-pub with_word : (heard : List (List ℕ)) (seat : SeatState) (w : List ℕ) → HearsNext heard seat → w ≡ get_or heard (length heard - seat.seats + seat.place) zero_word
+pub with_word : (heard : List (List ℕ)) (seat : SeatState) (w : List ℕ) → HearsNext heard seat
+    → w ≡ get_or heard (length heard - seat.seats + seat.place) zero_word
     → (with_heard heard seat).received ≡ seat.received ++ w ∷ []
 with_word heard seat w next is =
     let place : length heard - seat.seats + seat.place ≡ length seat.received * seat.seats + seat.place = let e = next.count in omega arith in
-    column_more heard seat.received seat.seats seat.place next.place next.count next.before ∙ ap (λ (x : List ℕ). seat.received ++ x ∷ []) (sym (is ∙ ap (λ (i : ℕ). get_or heard i zero_word) place))
+    column_more heard seat.received seat.seats seat.place next.place next.count next.before
+    ∙ ap (λ (x : List ℕ). seat.received ++ x ∷ []) (sym (is ∙ ap (λ (i : ℕ). get_or heard i zero_word) place))
 
 -- each part has taken the word
 pub SeatStandsFor-more : (heard : List (List ℕ)) (seat : SeatState) (w : List ℕ) (r receiver : ReceiverState) (s sender : SenderState) (k part : KeyState)
     → SeatStandsFor r s k seat → HearsNext heard seat → w ≡ get_or heard (length heard - seat.seats + seat.place) zero_word
     → ((total : ℕ) (words : List (List ℕ)) → ReceiverStandsFor r total words → ReceiverStandsFor receiver total (words ++ w ∷ []))
     → IsSenderOf sender seat.stream
-    → ((total : ℕ) (words : List (List ℕ)) (word : List ℕ) → SenderStandsFor s seat.stream total words → ReceiverStandsFor receiver total (words ++ word ∷ []) → SenderStandsFor sender seat.stream total (words ++ word ∷ []))
+    → ((total : ℕ) (words : List (List ℕ)) (word : List ℕ) → SenderStandsFor s seat.stream total words → ReceiverStandsFor receiver total (words ++ word ∷ [])
+    → SenderStandsFor sender seat.stream total (words ++ word ∷ []))
     → ((keys : Keys) (station : ℕ) (received : List (List ℕ)) → KeyStandsFor k keys station received → KeyStandsFor part keys station (received ++ w ∷ []))
     → SeatStandsFor receiver sender part (with_heard heard seat)
 SeatStandsFor-more heard seat w r receiver s sender k part stands next is takes own sends keyed =
@@ -31,13 +34,15 @@ SeatStandsFor-more heard seat w r receiver s sender k part stands next is takes 
     let receives : ReceiverStandsFor receiver seat.keys.words (seat.received ++ w ∷ []) = takes seat.keys.words seat.received stands.receives in
     record {
       receives = subst (λ (xs : List (List ℕ)). ReceiverStandsFor receiver seat.keys.words xs) e receives;
-      sends = subst (λ (xs : List (List ℕ)). SenderStandsFor sender seat.stream seat.keys.words xs) e (sends seat.keys.words seat.received w stands.sends receives);
+      sends = subst (λ (xs : List (List ℕ)). SenderStandsFor sender seat.stream seat.keys.words xs) e
+          (sends seat.keys.words seat.received w stands.sends receives);
       own = own;
       keyed = subst (λ (xs : List (List ℕ)). KeyStandsFor part seat.keys seat.station xs) e (keyed seat.keys seat.station seat.received stands.keyed);
     }
 
 -- before the end of the session the word is the plain word and the keys
-pub word_of_seat : (seat : SeatState) (plain keys w : List ℕ) → length seat.received < seat.keys.words → plain ≡ plain_word seat.stream seat.received → keys ≡ key_part seat.keys.pairs seat.station seat.received
+pub word_of_seat : (seat : SeatState) (plain keys w : List ℕ) → length seat.received < seat.keys.words → plain ≡ plain_word seat.stream seat.received
+    → keys ≡ key_part seat.keys.pairs seat.station seat.received
     → w ≡ word_add plain keys → w ≡ seat_word seat
 word_of_seat seat plain keys w within is_plain is_keys is =
     let e : ltb (length seat.received) seat.keys.words ≡ true = lt-ltb _ _ within in

@@ -58,7 +58,8 @@ impl Book {
         requires words { round < net.now.words }
         requires playable { IsPlayable net.now (round * net.now.stations) (script_turn net.now round) }
         requires recorded { IsRecorded net.now (rounds_of net.now round) self.old }
-        requires honest { AreWordsOf (honest_word net.now (rounds_of net.now round)) (honest_stations net.now) honest.now }
+        requires honest { AreWordsOf (honest_word net.now (rounds_of net.now round))
+            (honest_stations net.now) honest.now }
         ensures { IsRecorded net.now (rounds_of net.now (round + 1)) self.new }
     {
         let stations = net.graph.stations();

@@ -41,7 +41,8 @@ impl KeyPart {
     pub fn word(&self) -> Word
         requires { self.now.taken < self.now.total }
         ensures { (keys : Keys) (station : ℕ) (received : List (List ℕ)) →
-            KeyStandsFor self.now keys station received → result ≡ key_part keys.pairs station received }
+            KeyStandsFor self.now keys station received →
+            result ≡ key_part keys.pairs station received }
     {
         self.mask.word()
     }
@@ -50,7 +51,8 @@ impl KeyPart {
     pub fn take(&mut self, w: &Word)
         requires { self.old.taken < self.old.total }
         ensures { (keys : Keys) (station : ℕ) (received : List (List ℕ)) →
-            KeyStandsFor self.old keys station received → KeyStandsFor self.new keys station (received ++ w.now ∷ []) }
+            KeyStandsFor self.old keys station received →
+            KeyStandsFor self.new keys station (received ++ w.now ∷ []) }
     {
         self.mask.take(w);
     }

@@ -30,7 +30,8 @@ pub(crate) fn publish(
     ensures count { length words.new.words ≡ length words.old.words + stations }
     ensures said_room { said.new.room ≡ said.old.room }
     ensures row { (f : ℕ → List ℕ) → AreWordsOf f (others_of coalition.now stations) honest.now →
-        words.new.words ≡ words.old.words ++ said_row coalition.now stations says.now words.old.words f }
+        words.new.words ≡
+        words.old.words ++ said_row coalition.now stations says.now words.old.words f }
 {
     let before = words.as_slice().len();
     push_row(words, coalition, stations, honest, &[]);

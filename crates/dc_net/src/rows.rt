@@ -56,7 +56,10 @@ fn word_at(words: &[Word], k: usize) -> Word
 pub(crate) fn push_rules(list: &mut WordList, rules: &[Said], words: &[Word], n: u16)
     requires room { length list.old.words + length rules.now ≤ list.old.room }
     requires within { All (IsWithin (length words.now) n) rules.now }
-    ensures { list.new ≡ record { words = list.old.words ++ rule_words rules.now words.now n; room = list.old.room } }
+    ensures { list.new ≡ record {
+      words = list.old.words ++ rule_words rules.now words.now n;
+      room = list.old.room;
+    } }
 {
     for rule in rules {
         list.push(rule_word_over(rule, words, n));
@@ -66,7 +69,10 @@ pub(crate) fn push_rules(list: &mut WordList, rules: &[Said], words: &[Word], n:
 /// Puts a word at the end so many times.
 fn push_same(list: &mut WordList, w: &Word, count: usize)
     requires room { length list.old.words + count ≤ list.old.room }
-    ensures { list.new ≡ record { words = list.old.words ++ replicate count w.now; room = list.old.room } }
+    ensures { list.new ≡ record {
+      words = list.old.words ++ replicate count w.now;
+      room = list.old.room;
+    } }
 {
     for _ in 0..count {
         list.push(*w);
@@ -84,9 +90,13 @@ pub(crate) fn push_heard(
     count: usize,
 )
     requires same { length list.old.words + count ≤ list.old.room }
-    requires dealt { length list.old.words + length (delivered_words (delivered delivery.now)) ≤ list.old.room }
+    requires dealt { length list.old.words + length (delivered_words (delivered delivery.now))
+        ≤ list.old.room }
     requires within { All (IsWithin (length words.now) n) (delivered_words (delivered delivery.now)) }
-    ensures { list.new ≡ record { words = list.old.words ++ row_heard (delivered delivery.now) words.now n sum.now count; room = list.old.room } }
+    ensures { list.new ≡ record {
+      words = list.old.words ++ row_heard (delivered delivery.now) words.now n sum.now count;
+      room = list.old.room;
+    } }
 {
     match delivery {
         Delivery::Sum => push_same(list, sum, count),

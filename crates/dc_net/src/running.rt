@@ -57,8 +57,10 @@ fn play<R: Threads + Sync, G: Gate + Sync>(
     requires checked { IsChecked net.now }
     requires seats { seats.old ≡ seats_after net.now (rounds_of net.now 0) }
     requires recorded { IsRecorded net.now (rounds_of net.now 0) book.old }
-    ensures seats { IfOk result (λ _. seats.new ≡ seats_after net.now (rounds_of net.now net.now.words)) }
-    ensures recorded { IfOk result (λ _. IsRecorded net.now (rounds_of net.now net.now.words) book.new) }
+    ensures seats { IfOk result (λ _.
+        seats.new ≡ seats_after net.now (rounds_of net.now net.now.words)) }
+    ensures recorded { IfOk result (λ _.
+        IsRecorded net.now (rounds_of net.now net.now.words) book.new) }
 {
     for round in 0..net.words {
         play_round(rt, alloc, net, workers, gate, round, seats, book)?;
@@ -84,8 +86,10 @@ fn play_round<R: Threads + Sync, G: Gate + Sync>(
     requires round { round < net.now.words }
     requires seats { seats.old ≡ seats_after net.now (rounds_of net.now round) }
     requires recorded { IsRecorded net.now (rounds_of net.now round) book.old }
-    ensures seats { IfOk result (λ _. seats.new ≡ seats_after net.now (rounds_of net.now (round + 1))) }
-    ensures recorded { IfOk result (λ _. IsRecorded net.now (rounds_of net.now (round + 1)) book.new) }
+    ensures seats { IfOk result (λ _.
+        seats.new ≡ seats_after net.now (rounds_of net.now (round + 1))) }
+    ensures recorded { IfOk result (λ _.
+        IsRecorded net.now (rounds_of net.now (round + 1)) book.new) }
 {
     note_script(net);
     let honest = map_words(rt, alloc, seats, workers, gate)?;

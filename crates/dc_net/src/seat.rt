@@ -37,9 +37,23 @@ impl<'n> Model for Seat<'n> {
 
     ghost Value = { SeatState };
 
-    ghost view = { λ s. record { stream = s.stream.now; keys = s.file.now; station = s.station; received = column s.seats s.place s.heard.value.words; place = s.place; seats = s.seats } };
+    ghost view = { λ s. record {
+      stream = s.stream.now;
+      keys = s.file.now;
+      station = s.station;
+      received = column s.seats s.place s.heard.value.words;
+      place = s.place;
+      seats = s.seats;
+    } };
 
-    ghost invariant = { λ s. SeatStandsFor s.receiver s.sender s.keys (record { stream = s.stream.now; keys = s.file.now; station = s.station; received = column s.seats s.place s.heard.value.words; place = s.place; seats = s.seats }) };
+    ghost invariant = { λ s. SeatStandsFor s.receiver s.sender s.keys (record {
+      stream = s.stream.now;
+      keys = s.file.now;
+      station = s.station;
+      received = column s.seats s.place s.heard.value.words;
+      place = s.place;
+      seats = s.seats;
+    }) };
 }
 
 impl<'n> Seat<'n> {
@@ -55,7 +69,14 @@ impl<'n> Seat<'n> {
         heard: &WordList,
     ) -> Result<Seat<'n>, NoMemory>
         requires { heard.now.words ≡ [] }
-        ensures { IfOk result (λ seat. seat ≡ record { stream = stream.now; keys = file.now; station = station; received = []; place = place; seats = seats }) }
+        ensures { IfOk result (λ seat. seat ≡ record {
+          stream = stream.now;
+          keys = file.now;
+          station = station;
+          received = [];
+          place = place;
+          seats = seats;
+        }) }
     {
         let receiver = Receiver::start(alloc, file.words)?;
         let sender = Sender::start(alloc, file.words)?;
@@ -90,7 +111,8 @@ impl<'n> Seat<'n> {
     pub fn finish(self) -> Ended
         ensures log { result.log.entries ≡ log_of self.entry.received }
         ensures sent { result.sent.entries ≡ sent_of self.entry.stream self.entry.received }
-        ensures pending { (result.pending.shorts, result.pending.longs) ≡ pending_counts self.entry.stream self.entry.received }
+        ensures pending { (result.pending.shorts, result.pending.longs)
+            ≡ pending_counts self.entry.stream self.entry.received }
     {
         let pending = self.sender.pending(self.stream);
         let Seat {

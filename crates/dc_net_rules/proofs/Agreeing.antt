@@ -85,13 +85,15 @@ all_agree net agrees =
       missing = c.0;
       words = eqb-true net.keys.words net.words (test_holds (net.keys.words == net.words) (key_words net.keys.words net.words) b.0);
       streams = none_along (stream_fault net) (range_with_len 0 net.stations) e.0;
-      rounds = eqb-true (length net.script.rounds) net.words (test_holds (length net.script.rounds == net.words) (script_rounds (length net.script.rounds) net.words) f.0);
+      rounds = eqb-true (length net.script.rounds) net.words
+          (test_holds (length net.script.rounds == net.words) (script_rounds (length net.script.rounds) net.words) f.0);
       stations = none_along (station_fault net) (enumerate_from 0 net.script.rounds) g.0;
       rules = none_along (rule_fault net) (enumerate_from 0 net.script.rounds) i.0;
     }
 
 -- what both tests of a stream say
-stream_due : (member there : Bool) (stray missing : Disagreement) → (if member then (if there then Some stray else None) else (if there then None else Some missing)) ≡ None → there ≡ not member
+stream_due : (member there : Bool) (stray missing : Disagreement)
+    → (if member then (if there then Some stray else None) else (if there then None else Some missing)) ≡ None → there ≡ not member
 stream_due true true stray missing h = let clash : ⊥ = cc in absurd clash
 stream_due true false stray missing h = refl
 stream_due false true stray missing h = refl
@@ -100,7 +102,8 @@ stream_due false false stray missing h = let clash : ⊥ = cc in absurd clash
 -- the stations that have a stream are the honest ones
 pub has_stream : (net : Net) → Agrees net → (i : ℕ) → i < net.stations → is_some (slice_index_or net.streams i None) ≡ not (is_among net.coalition i)
 has_stream net agrees i below =
-    let at : stream_fault net i ≡ None = subst (λ (k : ℕ). stream_fault net k ≡ None) (get_or-range_with_len 0 net.stations i 0 below ∙ (let e : 0 + i ≡ i = omega arith in e))
+    let at : stream_fault net i ≡ None = subst (λ (k : ℕ). stream_fault net k ≡ None) (get_or-range_with_len 0 net.stations i 0 below
+    ∙ (let e : 0 + i ≡ i = omega arith in e))
     ((all_agree net agrees).streams i 0 (let e = length-range_with_len 0 net.stations in omega arith)) in
     stream_due (is_among net.coalition i) (is_some (slice_index_or net.streams i None)) (stream_stray i) (stream_missing i) at
 
@@ -121,7 +124,8 @@ all_among xs ys none a here = elim (cases_Bool (is_among ys a)) [
 
 same_numbers : (xs ys : List ℕ) → least_in_one xs ys ≡ None → (a : ℕ) → is_among xs a ≡ is_among ys a
 same_numbers xs ys none a =
-    let empty = nothing_left (filter (λ x. not (is_among ys x)) xs) (filter (λ y. not (is_among xs y)) ys) (no_least _ (λ x y. if nat_lt y x then y else x) none) in
+    let empty = nothing_left (filter (λ x. not (is_among ys x)) xs) (filter (λ y. not (is_among xs y)) ys)
+    (no_least _ (λ x y. if nat_lt y x then y else x) none) in
     elim (cases_Bool (is_among xs a)) [
       | inl here ↦ here ∙ sym (all_among xs ys empty.0 a here)
       | inr gone ↦ elim (cases_Bool (is_among ys a)) [
@@ -135,10 +139,12 @@ pub same_lists : (xs ys : List ℕ) → least_in_one xs ys ≡ None → IsStrict
 same_lists xs ys none up down = same_rising xs ys (AllPairs-from_increasing xs up) (AllPairs-from_increasing ys down) (same_numbers xs ys none)
 
 -- a test of rounds at one round
-at_round : (net : Net) (f : ℕ × Turn → Option Disagreement) (t : ℕ) → t < length net.script.rounds → All (λ r. f r ≡ None) (enumerate_from 0 net.script.rounds) → f (t, script_turn net t) ≡ None
+at_round : (net : Net) (f : ℕ × Turn → Option Disagreement) (t : ℕ) → t < length net.script.rounds
+    → All (λ r. f r ≡ None) (enumerate_from 0 net.script.rounds) → f (t, script_turn net t) ≡ None
 at_round net f t within all =
     let d : Turn = record { says = []; delivery = all_sum } in
-    let is : get_or (enumerate_from 0 net.script.rounds) t (0, d) ≡ (t, script_turn net t) = get_or-enumerate_from 0 net.script.rounds t (0, d) within ∙ ap (λ (k : ℕ). (k, get_or net.script.rounds t d)) (let e : 0 + t ≡ t = omega arith in e) in
+    let is : get_or (enumerate_from 0 net.script.rounds) t (0, d) ≡ (t, script_turn net t) = get_or-enumerate_from 0 net.script.rounds t (0, d) within
+    ∙ ap (λ (k : ℕ). (k, get_or net.script.rounds t d)) (let e : 0 + t ≡ t = omega arith in e) in
     subst (λ (r : ℕ × Turn). f r ≡ None) is (all t (0, d) (let e = length-enumerate_from 0 net.script.rounds in omega arith))
 
 -- in a round the words said are those of the members, and the words delivered those of the honest stations
@@ -146,13 +152,16 @@ pub says_match : (net : Net) → Agrees net → (t : ℕ) → t < net.words → 
 says_match net agrees t within =
     let all = all_agree net agrees in
     let at = at_round net (station_fault net) t (let e = all.rounds in omega arith) all.stations in
-    (first_none (least_in_one (stations_of (script_turn net t).says) net.coalition) (station_dealt net (script_turn net t).delivery ∷ []) (map-none (script_station t) _ at)).0
+    (first_none (least_in_one (stations_of (script_turn net t).says) net.coalition) (station_dealt net (script_turn net t).delivery ∷ [])
+    (map-none (script_station t) _ at)).0
 
-pub dealt_match : (net : Net) → Agrees net → (t : ℕ) → t < net.words → (dealt : List Said) → (script_turn net t).delivery ≡ each dealt → least_in_one (stations_of dealt) (honest_stations net) ≡ None
+pub dealt_match : (net : Net) → Agrees net → (t : ℕ) → t < net.words → (dealt : List Said) → (script_turn net t).delivery ≡ each dealt
+    → least_in_one (stations_of dealt) (honest_stations net) ≡ None
 dealt_match net agrees t within dealt is =
     let all = all_agree net agrees in
     let at = at_round net (station_fault net) t (let e = all.rounds in omega arith) all.stations in
-    let both = first_none (least_in_one (stations_of (script_turn net t).says) net.coalition) (station_dealt net (script_turn net t).delivery ∷ []) (map-none (script_station t) _ at) in
+    let both = first_none (least_in_one (stations_of (script_turn net t).says) net.coalition) (station_dealt net (script_turn net t).delivery ∷ [])
+    (map-none (script_station t) _ at) in
     let delivery = first_none (station_dealt net (script_turn net t).delivery) [] both.1 in
     subst (λ (d : Delivery). station_dealt net d ≡ None) is delivery.0
 
@@ -168,19 +177,23 @@ pub say_terms : (net : Net) → Agrees net → (t : ℕ) → t < net.words → A
 say_terms net agrees t within =
     let all = all_agree net agrees in
     let at = at_round net (rule_fault net) t (let e = all.rounds in omega arith) all.rules in
-    let both = first_none (say_by_faulty_rule net t (script_turn net t).says) (dealt_by_faulty_rule net (script_turn net t).delivery ∷ []) (map-none (script_rule t) _ at) in
+    let both = first_none (say_by_faulty_rule net t (script_turn net t).says) (dealt_by_faulty_rule net (script_turn net t).delivery ∷ [])
+    (map-none (script_rule t) _ at) in
     let p : Said → Bool = λ said. list_any (λ term. names_no_station net term || names_member_now net t term) said.terms in
     let failing = none_found p (script_turn net t).says (map-none (λ said. said.station) _ both.0) in
     λ k d low. λ j e less.
-    let fails = none_passes (λ term. names_no_station net term || names_member_now net t term) (get_or (script_turn net t).says k d).terms (failing k d low) j e less in
+    let fails = none_passes (λ term. names_no_station net term || names_member_now net t term) (get_or (script_turn net t).says k d).terms
+    (failing k d low) j e less in
     named_below net (get_or (get_or (script_turn net t).says k d).terms j e) (both_fail _ _ fails).0
 
 -- and of the words delivered
-pub dealt_terms : (net : Net) → Agrees net → (t : ℕ) → t < net.words → (dealt : List Said) → (script_turn net t).delivery ≡ each dealt → All (λ said. All (λ term. term.station < net.stations) said.terms) dealt
+pub dealt_terms : (net : Net) → Agrees net → (t : ℕ) → t < net.words → (dealt : List Said) → (script_turn net t).delivery ≡ each dealt
+    → All (λ said. All (λ term. term.station < net.stations) said.terms) dealt
 dealt_terms net agrees t within dealt is =
     let all = all_agree net agrees in
     let at = at_round net (rule_fault net) t (let e = all.rounds in omega arith) all.rules in
-    let both = first_none (say_by_faulty_rule net t (script_turn net t).says) (dealt_by_faulty_rule net (script_turn net t).delivery ∷ []) (map-none (script_rule t) _ at) in
+    let both = first_none (say_by_faulty_rule net t (script_turn net t).says) (dealt_by_faulty_rule net (script_turn net t).delivery ∷ [])
+    (map-none (script_rule t) _ at) in
     let later = first_none (dealt_by_faulty_rule net (script_turn net t).delivery) [] both.1 in
     let found : dealt_by_faulty_rule net (each dealt) ≡ None = subst (λ (d : Delivery). dealt_by_faulty_rule net d ≡ None) is later.0 in
     let failing = none_found (λ said. list_any (names_no_station net) said.terms) dealt (map-none (λ said. said.station) _ found) in

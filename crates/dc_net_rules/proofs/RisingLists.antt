@@ -16,7 +16,8 @@ tails x xs up = λ i j d less within. up (suc i) (suc j) d (omega arith) (omega 
 
 -- a number below all numbers of a list is not among them
 absent : (a : ℕ) (xs : List ℕ) → All (λ y. a < y) xs → is_among xs a ≡ false
-absent a xs above = list_any_none (λ y. nat_eq a y) xs (All-weaker (λ y. a < y) (λ y. nat_eq a y ≡ false) (λ y less. ne_eqb a y (λ e. absurd (omega arith))) xs above)
+absent a xs above = list_any_none (λ y. nat_eq a y) xs
+    (All-weaker (λ y. a < y) (λ y. nat_eq a y ≡ false) (λ y less. ne_eqb a y (λ e. absurd (omega arith))) xs above)
 
 -- the first number of a list is among it
 present : (x : ℕ) (xs : List ℕ) → is_among (x ∷ xs) x ≡ true
@@ -38,9 +39,11 @@ same_rising (x ∷ xs) (y ∷ ys) up down same = elim (cases_order x y) [
       let later = same_rising xs ys (tails x xs up) (tails y ys down) rest in
       ap (λ (zs : List ℕ). x ∷ zs) later ∙ ap (λ (z : ℕ). z ∷ ys) is)
   | inr other ↦ elim other [
-    | inl less ↦ (let gone : is_among (y ∷ ys) x ≡ false = ap (λ (b : Bool). b || is_among ys x) (ne_eqb x y (λ e. absurd (omega arith))) ∙ absent x ys (All-weaker (λ b. y < b) (λ b. x < b) (λ b lt. omega arith) ys (heads y ys down)) in
+    | inl less ↦ (let gone : is_among (y ∷ ys) x ≡ false = ap (λ (b : Bool). b || is_among ys x) (ne_eqb x y (λ e. absurd (omega arith)))
+        ∙ absent x ys (All-weaker (λ b. y < b) (λ b. x < b) (λ b lt. omega arith) ys (heads y ys down)) in
         absurd (true≢false (sym (present x xs) ∙ same x ∙ gone)))
-    | inr less ↦ (let gone : is_among (x ∷ xs) y ≡ false = ap (λ (b : Bool). b || is_among xs y) (ne_eqb y x (λ e. absurd (omega arith))) ∙ absent y xs (All-weaker (λ b. x < b) (λ b. y < b) (λ b lt. omega arith) xs (heads x xs up)) in
+    | inr less ↦ (let gone : is_among (x ∷ xs) y ≡ false = ap (λ (b : Bool). b || is_among xs y) (ne_eqb y x (λ e. absurd (omega arith)))
+        ∙ absent y xs (All-weaker (λ b. x < b) (λ b. y < b) (λ b lt. omega arith) xs (heads x xs up)) in
         absurd (true≢false (sym (present y ys) ∙ sym (same y) ∙ gone)))
   ]
 ]

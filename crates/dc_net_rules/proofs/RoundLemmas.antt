@@ -35,8 +35,10 @@ pub length-published : (net : Net) (t : ℕ) → length (published (rounds_of ne
 unfolding rounds_of
 length-published net zero = let e : 0 ≡ 0 * net.stations = omega arith in e
 length-published net (suc t) =
-    ap (λ (ws : List (List ℕ)). length ws) (published_more net (rounds_of net t)) ∙ length-append (published (rounds_of net t)) (next_words net (rounds_of net t))
-    ∙ (let before = length-published net t in let here = length-next_words net (rounds_of net t) in let e : t * net.stations + net.stations ≡ suc t * net.stations = omega arith in omega arith)
+    ap (λ (ws : List (List ℕ)). length ws) (published_more net (rounds_of net t))
+    ∙ length-append (published (rounds_of net t)) (next_words net (rounds_of net t))
+    ∙ (let before = length-published net t in let here = length-next_words net
+    (rounds_of net t) in let e : t * net.stations + net.stations ≡ suc t * net.stations = omega arith in omega arith)
 
 -- what a station received, and what it receives in one round more
 pub history_more : (played : List Round) (round : Round) (i : ℕ) → history (played ++ round ∷ []) i ≡ history played i ++ word_of_station round.received i ∷ []

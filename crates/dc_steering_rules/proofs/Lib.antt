@@ -1,2 +1,4 @@
 pub mod SteeringLemmas
 pub mod OneSteering
+pub mod KeyChanges
+pub mod SteeredKeys

@@ -97,7 +97,7 @@ steered_change cu cv e count n j is from within =
     ∙ ap (λ b. if b then 0 else next_change cu cv e (changes_up_to cu cv e count j)) (lt-leb count (j + p) (omega arith))
 
 -- what was received alike has no difference
-no_difference : (cu cv : List ℕ) (k : ℕ) → AreSymbols cu → k < first_difference cu cv → difference_at cu cv k ≡ 0
+pub no_difference : (cu cv : List ℕ) (k : ℕ) → AreSymbols cu → k < first_difference cu cv → difference_at cu cv k ≡ 0
 no_difference cu cv k good low =
     let same = agree_before cu cv k low in
     let symbol : slice_index cu k < 65537 = good k in

@@ -1,3 +1,4 @@
 pub mod Steerings
+pub mod Counting
 pub mod SteeringText
 pub mod Laws

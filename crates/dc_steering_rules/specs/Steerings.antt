@@ -96,11 +96,15 @@ abbrev pub steered : Pair → List ℕ → List ℕ → List ℕ → ℕ → Pai
 steered pair cu cv e count =
     let y = second_changes cu cv e count in changed_pair pair (first_changes cu y count) y
 
--- the changes that turn the sums of a run into wanted ones from some round on, 0 before that round
+-- the changes that turn given sums of all rounds from some round on into wanted ones, 0 before that
+-- round
+abbrev pub changes_between : ℕ → List (List ℕ) → List (List ℕ) → List ℕ
+changes_between from given wanted =
+    replicate (16 * from) 0 ++ symbols (map (λ ws. word_sub ws.0 ws.1) (zip wanted given))
+
+-- the changes that turn the sums of a run into wanted ones from some round on
 abbrev pub wanted_changes : List (List ℕ) → ℕ → List (List ℕ) → List ℕ
-wanted_changes sums from wanted =
-    replicate (16 * from) 0
-    ++ symbols (map (λ ws. word_sub ws.0 ws.1) (zip wanted (drop from sums)))
+wanted_changes sums from wanted = changes_between from (drop from sums) wanted
 
 -- where two stations first received differently, and the changes of the pads of their pair
 pub record Steering : Type 0 where

@@ -1,5 +1,5 @@
 -- Histories of a run: their beginnings, and those of an alike run.
-use Rattle.std.proofs.Common.{◌≡◌, ℕ, zero, suc, ◌+◌, ◌-◌, ◌%◌, ◌<◌, ◌≤◌, not, Bool, true, false, cond, List, [], ◌∷◌, ◌++◌, length, map, take, get_or, slice_index, slice_index_or, Option, Some, None, refl, sym, ◌∙◌, ap, subst, inl, inr, arith, zero-le, eq-or-lt_of_le}
+use Rattle.std.proofs.Common.{◌≡◌, ℕ, zero, suc, ◌+◌, ◌-◌, ◌%◌, ◌<◌, ◌≤◌, not, false, List, [], ◌∷◌, take, slice_index, slice_index_or, Option, Some, None, refl, sym, ◌∙◌, ap, subst, inl, inr, arith, zero-le, eq-or-lt_of_le}
 use Rattle.std.specs.List.{All, range_with_len}
 use Rattle.std.specs.Option.{unwrap_or}
 use Rattle.std.proofs.lemmas.List.{get_or-map, take-map, take_all, take-append-le}
@@ -7,7 +7,7 @@ use Rattle.std.proofs.lemmas.List.Elements.{All-head, All-tail, All-take, All-ni
 use Rattle.std.proofs.lemmas.List.FromFn.{get_or-map-range_with_len}
 use Rattle.dc_spec.specs.Entries.{IsMessage, Stream}
 use Rattle.dc_spec.specs.Values.{IsValue}
-use Rattle.dc_spec.specs.Words.{IsWord, zero_word, word_sub}
+use Rattle.dc_spec.specs.Words.{IsWord, zero_word}
 use Rattle.dc_spec.specs.Net.{Net}
 use Rattle.dc_spec.specs.Lists.{is_among}
 use Rattle.dc_spec.proofs.ListLemmas.{passes_kept, in_range}
@@ -15,10 +15,10 @@ use Rattle.dc_spec.proofs.WordLemmas.{IsWord-word_of, symbol-word_of}
 use Rattle.dc_formats.specs.StreamFile.{IsStream}
 use Rattle.dc_station_rules.specs.Stations.{plain_word}
 use Rattle.dc_net_rules.specs.Nets.{IsNet}
-use Rattle.dc_net_rules.specs.Runs.{Round, word_of_station, station_stream, history, rounds_of, all_rounds, next_round, honest_stations, IsHonest, IsAlikeIn, IsAlike}
+use Rattle.dc_net_rules.specs.Runs.{Round, word_of_station, station_stream, history, rounds_of, all_rounds, next_round, IsHonest, IsAlikeIn, IsAlike}
 use Rattle.dc_net_rules.proofs.RoundLemmas.{length-rounds_of}
 use Rattle.dc_twin_rules.specs.Twins.{IsPermutationOf, inverse, moved, demand, demands_in}
-use Rattle.dc_twin_rules.proofs.Permuted.{length-inverse, inverse-below}
+use Rattle.dc_twin_rules.proofs.Permuted.{length-inverse, image-below, back-there}
 use Rattle.dc_twin_rules.proofs.PlainSymbols.{IsFit, plain-symbol}
 
 -- the first rounds of a run
@@ -43,7 +43,8 @@ same-history net (r ∷ rs) alike i j honest_i honest_j =
 
 pub one-history : (net : Net) → IsAlike net → (t : ℕ) → t ≤ net.words → (i j : ℕ) → IsHonest net i → IsHonest net j → history (rounds_of net t) i ≡ history (rounds_of net t) j
 one-history net alike t le i j honest_i honest_j =
-    same-history net (rounds_of net t) (subst (λ (rounds : List Round). All (IsAlikeIn net) rounds) (take-rounds net t net.words le) (All-take (IsAlikeIn net) t (all_rounds net) alike)) i j honest_i honest_j
+    same-history net (rounds_of net t) (subst (λ (rounds : List Round). All (IsAlikeIn net) rounds) (take-rounds net t net.words le) (All-take (IsAlikeIn net) t
+    (all_rounds net) alike)) i j honest_i honest_j
 
 pub is-honest : (net : Net) (i : ℕ) → i < net.stations → is_among net.coalition i ≡ false → IsHonest net i
 is-honest net i low honest = passes_kept (λ j. not (is_among net.coalition j)) (range_with_len 0 net.stations) i (in_range 0 net.stations i zero-le (omega arith)) (ap not honest)
@@ -57,8 +58,15 @@ pub station-fits : (net : Net) → IsNet net → (i : ℕ) → i < net.stations 
 station-fits net is i low = stream-fits (slice_index_or net.streams i None) (is.are_streams i None (let size = is.streams in omega arith))
 
 -- the stream that a permutation moves to a station
-pub moved-place : (net : Net) (p : List ℕ) → IsPermutationOf net.stations p → (i : ℕ) → i < net.stations → slice_index_or (moved net p).streams i None ≡ slice_index_or net.streams (slice_index (inverse p) i) None
+pub moved-place : (net : Net) (p : List ℕ) → IsPermutationOf net.stations p → (i : ℕ) → i < net.stations → slice_index_or (moved net p).streams i None
+    ≡ slice_index_or net.streams (slice_index (inverse p) i) None
 moved-place net p permutes i low = get_or-map (λ (k : ℕ). slice_index_or net.streams k None) (inverse p) i 0 None (let size = length-inverse net.stations p permutes in omega arith)
+
+-- so the image of a station has that station's stream
+pub image-place : (net : Net) (p : List ℕ) → IsPermutationOf net.stations p → (i : ℕ) → i < net.stations →
+    slice_index_or (moved net p).streams (slice_index p i) None ≡ slice_index_or net.streams i None
+image-place net p permutes i low = moved-place net p permutes (slice_index p i) (image-below net.stations p permutes i low)
+    ∙ ap (λ (k : ℕ). slice_index_or net.streams k None) (back-there net.stations p permutes i low)
 
 pub moved-stream : (net : Net) (p : List ℕ) → IsPermutationOf net.stations p → (i : ℕ) → i < net.stations → station_stream (moved net p) i ≡ station_stream net (slice_index (inverse p) i)
 moved-stream net p permutes i low = ap (λ (place : Option Stream). unwrap_or place (record { shorts = []; longs = []; coins = [] })) (moved-place net p permutes i low)
@@ -68,13 +76,15 @@ pub demand-at : (net : Net) (p : List ℕ) (played : List Round) (t i : ℕ) →
 demand-at net p played t i low = get_or-map-range_with_len (λ k. demand net p k (take t (history played k))) 0 net.stations i i zero_word low (omega arith)
 
 pub demand-word : (net : Net) (p : List ℕ) (i : ℕ) (received : List (List ℕ)) → IsWord (demand net p i received)
-demand-word net p i received = IsWord-word_of (λ l. (slice_index (plain_word (station_stream net i) received) l + (65537 - slice_index (plain_word (station_stream (moved net p) i) received) l)) % 65537) (λ l few. small _)
+demand-word net p i received = IsWord-word_of (λ l. (slice_index (plain_word (station_stream net i) received) l + (65537 - slice_index (plain_word (station_stream
+    (moved net p) i) received) l)) % 65537) (λ l few. small _)
   where
     small : (x : ℕ) → x % 65537 < 65537
     small x = omega arith
 
 pub demand-symbol : (net : Net) (p : List ℕ) → IsPermutationOf net.stations p → (i : ℕ) → i < net.stations → (received : List (List ℕ)) (l : ℕ) → l < 16 →
-    slice_index (demand net p i received) l ≡ (slice_index (plain_word (station_stream net i) received) l + (65537 - slice_index (plain_word (station_stream net (slice_index (inverse p) i)) received) l)) % 65537
+    slice_index (demand net p i received) l ≡ (slice_index (plain_word (station_stream net i) received) l + (65537 - slice_index (plain_word (station_stream net (slice_index
+    (inverse p) i)) received) l)) % 65537
 demand-symbol net p permutes i low received l few =
     symbol-word_of (λ k. (slice_index (plain_word (station_stream net i) received) k + (65537 - slice_index (plain_word (station_stream (moved net p) i) received) k)) % 65537) l few
     ∙ ap (λ (s : Stream). (slice_index (plain_word (station_stream net i) received) l + (65537 - slice_index (plain_word s received) l)) % 65537) (moved-stream net p permutes i low)

@@ -1,13 +1,12 @@
 -- What a station's keys gain where the first pads of its pairs change.
-use Rattle.std.proofs.Common.{◌≡◌, ℕ, zero, suc, ◌+◌, ◌-◌, ◌%◌, ◌<◌, ◌≤◌, ◌⊎◌, ◌==◌, ◌&&◌, Bool, true, false, cond, List, [], ◌∷◌, length, map, filter, sum_by, nat_eq, Option, Some, None, slice_index, slice_index_or, refl, sym, ◌∙◌, ap, subst, inl, inr, arith, eqb-true, true≢false, zero-le}
+use Rattle.std.proofs.Common.{◌≡◌, ℕ, ◌+◌, ◌-◌, ◌%◌, ◌<◌, ◌≤◌, ◌⊎◌, ◌==◌, ◌&&◌, Bool, true, false, cond, List, length, map, filter, sum_by, nat_eq, Option, Some, None, slice_index, refl, sym, ◌∙◌, ap, subst, inl, inr, arith, eqb-true, true≢false, zero-le}
 use Rattle.std.specs.List.{All, AllPairs, list_any, range_with_len}
 use Rattle.std.specs.Option.{option_map_or}
 use Rattle.dc_spec.specs.Pads.{Pair}
 use Rattle.dc_spec.proofs.WordLemmas.{symbol-word_of}
-use Rattle.dc_spec.proofs.SumLemmas.{sum_by-map, sum_by-same, sum_by-plus, sum_by-single, sum_by-zero}
+use Rattle.dc_spec.proofs.SumLemmas.{sum_by-map, sum_by-single, sum_by-zero}
 use Rattle.dc_key_rules.specs.PairKeys.{symbols, key_word, key_sum, key_part}
-use Rattle.dc_twin_rules.proofs.KeyedSums.{sum_by-key, sum_by-kept, sum_by-mod_plus, all_range}
-use Rattle.dc_twin_rules.proofs.Shifting.{gain}
+use Rattle.dc_twin_rules.proofs.KeyedSums.{sum_by-key, sum_by-kept, sum_by-mod_plus}
 
 -- a symbol of a station's keys
 pub key_part-symbol : (pairs : List Pair) (i : ℕ) (history : List (List ℕ)) (l : ℕ) → l < 16 →
@@ -30,11 +29,12 @@ pub end-gain : (end other : Pair → ℕ) (f : Pair → ℕ) (change : Pair → 
 end-gain end other f change Y n i pairs ends gains low apart =
     let kept = sum_by-kept f (λ q. end q == i) (map change pairs) ∙ sum_by-map (λ q. cond (end q == i) (f q) 0) change pairs in
     let split = sum_by-mod_plus (λ q. cond (end (change q) == i) (f (change q)) 0) (λ q. cond (end q == i) (f q) 0) (λ q. cond (end q == i) (Y i (other q)) 0) pairs
-        (λ k d within. one (end (change _)) (end _) (f (change _)) (f _) (other _) (ends k d within) (gains k d within)) in
+    (λ k d within. one (end (change _)) (end _) (f (change _)) (f _) (other _) (ends k d within) (gains k d within)) in
     let own = sym (sum_by-kept f (λ q. end q == i) pairs) in
     let by_key = sum_by-key (λ q. end q == i) other (Y i) n pairs low
-        (λ j k d less within a b same. apart j k d less within (eqb-true _ i a ∙ sym (eqb-true _ i b)) same) in
-    ap (λ s. s % 65537) kept ∙ split ∙ ap (λ s. (s + sum_by (λ q. cond (end q == i) (Y i (other q)) 0) pairs) % 65537) own ∙ ap (λ s. (sum_by f (filter (λ q. end q == i) pairs) + s) % 65537) by_key
+    (λ j k d less within a b same. apart j k d less within (eqb-true _ i a ∙ sym (eqb-true _ i b)) same) in
+    ap (λ s. s % 65537) kept ∙ split ∙ ap (λ s. (s + sum_by (λ q. cond (end q == i) (Y i (other q)) 0) pairs) % 65537) own
+    ∙ ap (λ s. (sum_by f (filter (λ q. end q == i) pairs) + s) % 65537) by_key
   where
     one_by : (b : Bool) (f' f y y' : ℕ) → (b ≡ true → y ≡ y') → f' % 65537 ≡ (f + y) % 65537 → cond b f' 0 % 65537 ≡ (cond b f 0 + cond b y' 0) % 65537
     one_by true f' f y y' same e = let s = same refl in omega arith
@@ -65,6 +65,7 @@ balanced au av false true bi bw low_i low_w apart up down = elim (down refl) [
 balanced au av false false bi bw low_i low_w apart up down = let left = none_counts au in let right = none_counts av in omega arith
 
 -- the parent of a station counts once
-pub parent-counts : (o : Option ℕ) (n b : ℕ) → ((u : ℕ) → o ≡ Some u → u < n) → (o ≡ None → b % 65537 ≡ 0) → sum_by (λ w. cond (option_map_or (nat_eq w) o false) b 0) (range_with_len 0 n) % 65537 ≡ b % 65537
+pub parent-counts : (o : Option ℕ) (n b : ℕ) → ((u : ℕ) → o ≡ Some u → u < n) → (o ≡ None → b % 65537 ≡ 0) →
+    sum_by (λ w. cond (option_map_or (nat_eq w) o false) b 0) (range_with_len 0 n) % 65537 ≡ b % 65537
 parent-counts None n b low none = ap (λ s. s % 65537) (sum_by-zero (range_with_len 0 n)) ∙ (let e = none refl in omega arith)
 parent-counts (Some u) n b low none = ap (λ s. s % 65537) (sum_by-single (λ _. b) 0 n u zero-le (let below = low u refl in omega arith))

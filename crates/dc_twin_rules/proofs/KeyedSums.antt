@@ -1,5 +1,5 @@
 -- Sums over the items of a list by a number that is each item's own, and sums modulo 65537.
-use Rattle.std.proofs.Common.{◌≡◌, ℕ, zero, suc, ◌+◌, ◌%◌, ◌<◌, Bool, true, false, cond, ◌||◌, ◌&&◌, List, [], ◌∷◌, length, get_or, filter, sum_by, nat_eq, refl, sym, ◌∙◌, ap, subst, arith, eqb-true, zero-le}
+use Rattle.std.proofs.Common.{◌≡◌, ℕ, suc, ◌+◌, ◌%◌, ◌<◌, Bool, true, false, cond, ◌||◌, ◌&&◌, List, [], ◌∷◌, get_or, filter, sum_by, nat_eq, refl, sym, ◌∙◌, ap, subst, arith, eqb-true, zero-le}
 use Rattle.std.specs.List.{All, AllPairs, list_any, range_with_len}
 use Rattle.std.proofs.lemmas.Bool.{and_parts}
 use Rattle.std.proofs.lemmas.List.Elements.{All-head, All-tail}
@@ -29,15 +29,16 @@ sum_by-key {A} keep key X n (x ∷ xs) low apart =
     let ih = sum_by-key keep key X n xs (All-tail (λ y. key y < n) x xs low) (λ i j d less within. apart (suc i) (suc j) d (omega arith) (omega arith)) in
     let clash : (w : ℕ) → here w ≡ true → rest w ≡ true → ⊥ = λ w a b.
     (let p = and_parts (keep x) (nat_eq w (key x)) a in
-        let f = Any-from_list_any (λ y. keep y && nat_eq w (key y)) xs b in
-        let q = and_parts (keep f.1) (nat_eq w (key f.1)) f.4 in
-        apart 0 (suc f.0) f.1 (omega arith) (let within = f.2 in omega arith) p.0 (subst (λ (y : A). keep y ≡ true) (sym f.3) q.0)
-        (sym (eqb-true w (key x) p.1) ∙ eqb-true w (key f.1) q.1 ∙ ap key (sym f.3))) in
+    let f = Any-from_list_any (λ y. keep y && nat_eq w (key y)) xs b in
+    let q = and_parts (keep f.1) (nat_eq w (key f.1)) f.4 in
+    apart 0 (suc f.0) f.1 (omega arith) (let within = f.2 in omega arith) p.0 (subst (λ (y : A). keep y ≡ true) (sym f.3) q.0)
+    (sym (eqb-true w (key x) p.1) ∙ eqb-true w (key f.1) q.1 ∙ ap key (sym f.3))) in
     let both = sum_by-same (λ w. cond (here w || rest w) (X w) 0) (λ w. cond (here w) (X w) 0 + cond (rest w) (X w) 0) (range_with_len 0 n) (λ w there. either (here w) (rest w) (X w) (clash w)) in
     let parts = sum_by-plus (λ w. cond (here w) (X w) 0) (λ w. cond (rest w) (X w) 0) (range_with_len 0 n) in
     let own = at_key (keep x) X n (key x) (All-head (λ y. key y < n) x xs low) in
     let split = sum_by-cons (λ y. cond (keep y) (X (key y)) 0) x xs in
-    split ∙ (let e : cond (keep x) (X (key x)) 0 + sum_by (λ y. cond (keep y) (X (key y)) 0) xs ≡ sum_by (λ w. cond (here w) (X w) 0) (range_with_len 0 n) + sum_by (λ w. cond (rest w) (X w) 0) (range_with_len 0 n) = omega arith in e)
+    split ∙ (let e : cond (keep x) (X (key x)) 0 + sum_by (λ y. cond (keep y) (X (key y)) 0) xs
+    ≡ sum_by (λ w. cond (here w) (X w) 0) (range_with_len 0 n) + sum_by (λ w. cond (rest w) (X w) 0) (range_with_len 0 n) = omega arith in e)
     ∙ sym (both ∙ parts)
 
 -- the items that a filter keeps, by its test

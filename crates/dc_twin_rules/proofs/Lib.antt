@@ -11,3 +11,6 @@ pub mod Histories
 pub mod Changes
 pub mod StationRounds
 pub mod Rounds
+pub mod Kept
+pub mod Views
+pub mod Back

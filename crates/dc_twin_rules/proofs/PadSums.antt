@@ -1,6 +1,6 @@
 -- Pads that change, symbol by symbol.
-use Rattle.std.proofs.Common.{◌≡◌, ℕ, zero, suc, ◌+◌, ◌-◌, ◌*◌, ◌%◌, ◌<◌, List, [], ◌∷◌, ◌++◌, length, get_or, slice_index, sum_by, refl, sym, ap, ◌∙◌, arith, length-append}
-use Rattle.std.specs.List.{All, range_with_len, flat_map}
+use Rattle.std.proofs.Common.{◌≡◌, ℕ, zero, suc, ◌+◌, ◌-◌, ◌*◌, ◌%◌, ◌<◌, List, [], ◌∷◌, length, get_or, slice_index, sum_by, refl, ap, ◌∙◌, arith, length-append}
+use Rattle.std.specs.List.{All, range_with_len}
 use Rattle.std.proofs.lemmas.List.{get_or-append-add, get_or_append_left}
 use Rattle.std.proofs.lemmas.List.Elements.{All-head, All-tail}
 use Rattle.dc_key_rules.specs.PairKeys.{symbols, key_symbol, pads_add}
@@ -39,7 +39,8 @@ symbols-at (w ∷ ws) are (suc t) l n is few within =
     ∙ symbols-at ws (All-tail (λ (v : List ℕ). length v ≡ 16) w ws are) t l (16 * t + l) refl few (omega arith)
 
 -- what is added to a first pad is added to the symbol of the key
-pub key_symbol-shifted : (a b c : List ℕ) (a' : List ℕ) (before n x : ℕ) → slice_index a' n % 65537 ≡ (slice_index a n + x) % 65537 → key_symbol a' b c before n % 65537 ≡ (key_symbol a b c before n + x) % 65537
+pub key_symbol-shifted : (a b c : List ℕ) (a' : List ℕ) (before n x : ℕ) → slice_index a' n % 65537 ≡ (slice_index a n + x) % 65537 → key_symbol a' b c before n % 65537
+    ≡ (key_symbol a b c before n + x) % 65537
 key_symbol-shifted a b c a' before n x is = by_numbers (slice_index a' n) (slice_index a n) x (sum_by (λ k. slice_index b (n - k) * slice_index c k) (range_with_len 0 before)) is
   where
     by_numbers : (p q x r : ℕ) → p % 65537 ≡ (q + x) % 65537 → (p + r) % 65537 % 65537 ≡ ((q + r) % 65537 + x) % 65537

@@ -1,19 +1,20 @@
 -- The demands of a part in which all stations have one history sum to zero.
-use Rattle.std.proofs.Common.{◌≡◌, ℕ, zero, suc, ◌+◌, ◌-◌, ◌%◌, ◌<◌, ◌≤◌, ◌||◌, not, Bool, true, false, cond, List, [], ◌∷◌, ◌++◌, filter, sum_by, slice_index, IsTrue, refl, sym, ◌∙◌, ap, subst, inl, inr, arith, true≢false, zero-le}
-use Rattle.std.specs.List.{All, range_with_len}
-use Rattle.std.proofs.lemmas.Bool.{and_parts, not-true, cases_Bool}
+use Rattle.std.proofs.Common.{◌≡◌, ℕ, ◌+◌, ◌%◌, ◌<◌, ◌||◌, not, Bool, true, false, cond, List, [], ◌∷◌, ◌++◌, sum_by, slice_index, refl, sym, ◌∙◌, ap, subst, arith, true≢false}
+use Rattle.std.specs.List.{range_with_len}
+use Rattle.std.proofs.lemmas.Bool.{and_parts, not-true}
 use Rattle.dc_spec.specs.Lists.{is_among}
 use Rattle.dc_spec.proofs.Booleans.{test-same}
 use Rattle.dc_spec.proofs.ListLemmas.{kept_passes, passes_kept, below_range}
-use Rattle.dc_spec.proofs.SumLemmas.{sum_by-filter, sum_by-same, sum_by-plus}
-use Rattle.dc_graph_rules.specs.Graphs.{KeyGraph, IsKeyGraph, has_edge, are_neighbours, IsWalk, AreJoined, part, is_joined}
+use Rattle.dc_spec.proofs.SumLemmas.{sum_by-filter, sum_by-same}
+use Rattle.dc_graph_rules.specs.Graphs.{KeyGraph, IsKeyGraph, has_edge, IsWalk, AreJoined, part, is_joined}
 use Rattle.dc_graph_rules.proofs.GraphLemmas.{joined-walks, walk_on}
 use Rattle.dc_graph_rules.proofs.ForestLemmas.{neighbours-comm, reached_as_filter}
 use Rattle.dc_twin_rules.specs.Twins.{IsPermutationOf, inverse}
 use Rattle.dc_twin_rules.proofs.KeyedSums.{sum_by-mod_plus, all_range}
-use Rattle.dc_twin_rules.proofs.Permuted.{sum-permuted, back-there, image-below}
+use Rattle.dc_twin_rules.proofs.Permuted.{sum-permuted, back-there}
 
-second_fails : (b c : Bool) → (b || c) ≡ false → c ≡ false
+-- where neither of two tests passes, the second does not
+pub second_fails : (b c : Bool) → (b || c) ≡ false → c ≡ false
 second_fails false c h = h
 second_fails true c h = absurd (true≢false h)
 
@@ -21,7 +22,8 @@ second_fails true c h = absurd (true≢false h)
 pub walk-honest : (g : KeyGraph) (u : ℕ) (walk : List ℕ) (w : ℕ) → is_among g.coalition u ≡ false → IsWalk g u walk w → is_among g.coalition w ≡ false
 walk-honest g u [] w honest walks = subst (λ (z : ℕ). is_among g.coalition z ≡ false) walks honest
 walk-honest g u (v ∷ vs) w honest walks =
-    walk-honest g v vs w (second_fails (is_among g.coalition u) (is_among g.coalition v) (not-true _ (and_parts (has_edge g.edges u v) (not (is_among g.coalition u || is_among g.coalition v)) walks.0).1)) walks.1
+    walk-honest g v vs w (second_fails (is_among g.coalition u) (is_among g.coalition v) (not-true _ (and_parts (has_edge g.edges u v) (not
+    (is_among g.coalition u || is_among g.coalition v)) walks.0).1)) walks.1
 
 -- walks one after the other, and back
 walks-join : (g : KeyGraph) (u : ℕ) (xs : List ℕ) (v : ℕ) (ys : List ℕ) (w : ℕ) → IsWalk g u xs v → IsWalk g v ys w → IsWalk g u (xs ++ ys) w
@@ -50,13 +52,14 @@ part-sum g i low f =
     let of_i = reached_as_filter g i g.stations (omega arith) in
     let stations = range_with_len 0 g.stations in
     let same : (w : ℕ) → is_among stations w ≡ true → of_i.0 w ≡ is_joined g i w = λ w there. test-same (of_i.0 w) (is_joined g i w)
-        (λ passes. subst (λ (xs : List ℕ). is_among xs w ≡ true) (sym of_i.1) (passes_kept of_i.0 stations w there passes))
-        (λ joined. kept_passes of_i.0 stations w (subst (λ (xs : List ℕ). is_among xs w ≡ true) of_i.1 joined)) in
+    (λ passes. subst (λ (xs : List ℕ). is_among xs w ≡ true) (sym of_i.1) (passes_kept of_i.0 stations w there passes))
+    (λ joined. kept_passes of_i.0 stations w (subst (λ (xs : List ℕ). is_among xs w ≡ true) of_i.1 joined)) in
     ap (λ (xs : List ℕ). sum_by f xs) of_i.1 ∙ sum_by-filter f of_i.0 stations
     ∙ sum_by-same (λ w. cond (of_i.0 w) (f w) 0) (λ w. cond (is_joined g i w) (f w) 0) stations (λ w there. ap (λ (b : Bool). cond b (f w) 0) (same w there))
 
 -- what each station of a part gains, less what the one before it in the permutation gains, is nothing in all
-pub part-sum_zero : (g : KeyGraph) → IsKeyGraph g → (p : List ℕ) → IsPermutationOf g.stations p → ((j : ℕ) → j < g.stations → AreJoined g j (slice_index p j)) → (i : ℕ) → i < g.stations → (G d : ℕ → ℕ) →
+pub part-sum_zero : (g : KeyGraph) → IsKeyGraph g → (p : List ℕ) → IsPermutationOf g.stations p → ((j : ℕ) → j < g.stations → AreJoined g j (slice_index p j)) → (i : ℕ) → i < g.stations →
+    (G d : ℕ → ℕ) →
     ((w : ℕ) → w < g.stations → is_joined g i w ≡ true → (d w + G (slice_index (inverse p) w)) % 65537 ≡ G w % 65537) → sum_by d (part g i) % 65537 ≡ 0
 part-sum_zero g good p permutes joined i low G d is =
     let n = g.stations in
@@ -64,11 +67,11 @@ part-sum_zero g good p permutes joined i low G d is =
     let inside = λ (w : ℕ). is_joined g i w in
     let moved = λ (w : ℕ). cond (inside w) (G (slice_index (inverse p) w)) 0 in
     let both = sum_by-mod_plus (λ w. cond (inside w) (G w) 0) (λ w. cond (inside w) (d w) 0) moved stations
-        (all_range (λ w. cond (inside w) (G w) 0 % 65537 ≡ (cond (inside w) (d w) 0 + moved w) % 65537) n (λ w less. one_by (inside w) (d w) (G (slice_index (inverse p) w)) (G w) (is w less))) in
+    (all_range (λ w. cond (inside w) (G w) 0 % 65537 ≡ (cond (inside w) (d w) 0 + moved w) % 65537) n (λ w less. one_by (inside w) (d w) (G (slice_index (inverse p) w)) (G w) (is w less))) in
     let turned : sum_by moved stations ≡ sum_by (λ w. cond (inside w) (G w) 0) stations = sym (sum-permuted n p permutes moved)
-        ∙ sum_by-same (λ j. moved (slice_index p j)) (λ j. cond (inside j) (G j) 0) stations (λ j there. (let bound : j < 0 + n = below_range 0 n j there in let less : j < n = omega arith in
-            ap (λ (b : Bool). cond b (G (slice_index (inverse p) (slice_index p j))) 0) (part-kept g good i j (slice_index p j) low (joined j less))
-            ∙ ap (λ (k : ℕ). cond (inside j) (G k) 0) (back-there n p permutes j less))) in
+    ∙ sum_by-same (λ j. moved (slice_index p j)) (λ j. cond (inside j) (G j) 0) stations (λ j there. (let bound : j < 0 + n = below_range 0 n j there in let less : j < n = omega arith in
+    ap (λ (b : Bool). cond b (G (slice_index (inverse p) (slice_index p j))) 0) (part-kept g good i j (slice_index p j) low (joined j less))
+    ∙ ap (λ (k : ℕ). cond (inside j) (G k) 0) (back-there n p permutes j less))) in
     let whole = part-sum g i low d in
     omega arith
   where

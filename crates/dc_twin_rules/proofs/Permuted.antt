@@ -1,8 +1,8 @@
 -- Permutations and their inverses; sums in another order.
-use Rattle.std.proofs.Common.{◌≡◌, ℕ, zero, suc, ◌+◌, ◌<◌, ◌≤◌, ◌≢◌, ◌&&◌, Bool, true, false, cond, List, [], ◌∷◌, length, map, get_or, slice_index, sum_by, nat_eq, refl, sym, ◌∙◌, ap, subst, inl, inr, arith, eq-eqb, eqb-true, true≢false, zero-le}
+use Rattle.std.proofs.Common.{◌≡◌, ℕ, suc, ◌+◌, ◌<◌, ◌≤◌, ◌≢◌, ◌&&◌, Bool, true, cond, List, ◌∷◌, length, map, get_or, slice_index, sum_by, nat_eq, refl, sym, ◌∙◌, ap, subst, inl, inr, arith, eq-eqb, eqb-true, true≢false}
 use Rattle.std.proofs.Math.Dec.{eqb}
-use Rattle.std.specs.List.{All, AllPairs, list_any, range_with_len, position_or_len}
-use Rattle.std.proofs.lemmas.Bool.{cases_Bool, cases_order, ne_eqb}
+use Rattle.std.specs.List.{list_any, range_with_len, position_or_len}
+use Rattle.std.proofs.lemmas.Bool.{cases_Bool, ne_eqb}
 use Rattle.std.proofs.lemmas.Bool.Decides.{Decides-eqb}
 use Rattle.std.proofs.lemmas.List.FromFn.{fill_by_all, get_or-map-range_with_len, length-map-range_with_len}
 use Rattle.std.proofs.lemmas.List.Kept.{AllPairs-cons}
@@ -27,7 +27,7 @@ all_there n p is w low = elim (cases_Bool (is_among p w)) [
   | inl there ↦ there
   | inr gone ↦ (
       let apart = IsDistinct-from_AllPairs Decides-eqb (w ∷ p) (AllPairs-cons (λ (x y : ℕ). x ≢ y) w p
-          (λ k d within same. true≢false (sym (subst (λ (z : ℕ). is_among p z ≡ true) (sym same) (stands p k d within)) ∙ gone)) is.distinct) in
+      (λ k d within same. true≢false (sym (subst (λ (z : ℕ). is_among p z ≡ true) (sym same) (stands p k d within)) ∙ gone)) is.distinct) in
       let below : (q : ℕ) → is_among (w ∷ p) q ≡ true → q < n = λ q there. elim (or_cases (nat_eq q w) (is_among p q) there) [
         | inl same ↦ subst (λ (z : ℕ). z < n) (sym (eqb-true q w same)) low
         | inr later ↦ image_below n p is q later
@@ -100,5 +100,5 @@ sum-permuted n p is Q =
     let as_map : p ≡ map (λ i. slice_index p i) (range_with_len 0 n) = fill_by_all (λ i. slice_index p i) p n 0 is.count (λ k low. refl) in
     let images = sum_by-key (λ x. true) (λ x. x) Q n p is.stations (λ i j d less within one other same. is.distinct i j d less within same) in
     let all = sum_by-same (λ w. cond (list_any (λ x. true && nat_eq w x) p) (Q w) 0) Q (range_with_len 0 n)
-        (λ w there. (let bound : w < 0 + n = below_range 0 n w there in ap (λ (b : Bool). cond b (Q w) 0) (all_there n p is w (omega arith)))) in
+    (λ w there. (let bound : w < 0 + n = below_range 0 n w there in ap (λ (b : Bool). cond b (Q w) 0) (all_there n p is w (omega arith)))) in
     sym (ap (λ (xs : List ℕ). sum_by Q xs) as_map ∙ sum_by-map Q (λ i. slice_index p i) (range_with_len 0 n)) ∙ images ∙ all

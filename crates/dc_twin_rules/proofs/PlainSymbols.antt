@@ -1,5 +1,5 @@
 -- Each number of a plain word is a symbol.
-use Rattle.std.proofs.Common.{◌≡◌, ℕ, zero, suc, ◌+◌, ◌-◌, ◌*◌, ◌<◌, ◌==◌, Bool, true, false, cond, nat_lt, List, [], ◌∷◌, length, map, get_or, slice_index, Option, Some, None, sym, subst, arith}
+use Rattle.std.proofs.Common.{◌≡◌, ℕ, zero, suc, ◌+◌, ◌*◌, ◌<◌, ◌==◌, Bool, true, false, cond, nat_lt, List, [], ◌∷◌, length, slice_index, Option, Some, None, sym, subst, arith}
 use Rattle.std.specs.List.{All}
 use Rattle.std.proofs.lemmas.List.{get_or-map}
 use Rattle.std.proofs.lemmas.List.Elements.{All-head, All-drop}
@@ -7,7 +7,7 @@ use Rattle.dc_spec.specs.Words.{zero_word}
 use Rattle.dc_spec.specs.Entries.{IsMessage, Stream}
 use Rattle.dc_spec.specs.Values.{IsValue, contended_word}
 use Rattle.dc_spec.proofs.WordLemmas.{symbol-word_of}
-use Rattle.dc_station_rules.specs.Bursts.{fragment_count, burst_bytes, fragment}
+use Rattle.dc_station_rules.specs.Bursts.{fragment_count, fragment}
 use Rattle.dc_station_rules.specs.Epochs.{Epoch, epoch_of, calls}
 use Rattle.dc_station_rules.specs.Cycles.{Cycle, Place, at_reservation, in_burst, in_epoch, history_of, place_in}
 use Rattle.dc_station_rules.specs.Stations.{marked, left_by, left_after, mark_word, long_word, burst_word, epoch_word, word_for, plain_word}
@@ -64,7 +64,8 @@ value-symbol value is (suc r) few =
 
 epoch-symbol : (shorts : List (List ℕ)) → All IsValue shorts → (epoch : Epoch) (l : ℕ) → l < 16 → slice_index (epoch_word shorts epoch) l < 65537
 epoch-symbol [] are epoch l few = zero-symbol l few
-epoch-symbol (value ∷ values) are epoch l few = choice-symbol (calls value epoch) (contended_word value 1) zero_word l (value-symbol value (All-head IsValue value values are) l few) (zero-symbol l few)
+epoch-symbol (value ∷ values) are epoch l few = choice-symbol (calls value epoch) (contended_word value 1) zero_word l (value-symbol value (All-head IsValue value values are) l few)
+    (zero-symbol l few)
 
 place-symbol : (s : Stream) → IsFit s → (place : Place) (l : ℕ) → l < 16 → slice_index (word_for s place) l < 65537
 unfolding word_for

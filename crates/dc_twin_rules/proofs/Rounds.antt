@@ -1,13 +1,12 @@
 -- The rounds of a twin are those of its net.
-use Rattle.std.proofs.Common.{◌≡◌, ℕ, zero, suc, ◌+◌, ◌<◌, ◌≤◌, Bool, true, false, cond, List, [], ◌∷◌, ◌++◌, length, map, refl, sym, ◌∙◌, ap, subst, inl, inr, arith, ltb-true}
+use Rattle.std.proofs.Common.{◌≡◌, ℕ, zero, suc, ◌<◌, ◌≤◌, Bool, true, false, cond, List, [], ◌∷◌, ◌++◌, length, map, refl, sym, ◌∙◌, ap, subst, arith}
 use Rattle.std.specs.List.{All, range_with_len}
-use Rattle.std.proofs.lemmas.Bool.{cases_Bool}
 use Rattle.dc_spec.specs.Lists.{is_among}
 use Rattle.dc_spec.specs.Words.{zero_word, word_sum}
 use Rattle.dc_spec.specs.Scripts.{word_by_rule}
 use Rattle.dc_spec.specs.Net.{Net}
 use Rattle.dc_net_rules.specs.Nets.{IsNet}
-use Rattle.dc_net_rules.specs.Runs.{Round, word_of_station, station_stream, station_word, script_turn, published, history, honest_words, next_words, heard, next_round, rounds_of, all_rounds, IsAlike, IsAlikeIn}
+use Rattle.dc_net_rules.specs.Runs.{Round, word_of_station, station_stream, station_word, script_turn, published, history, honest_words, heard, next_round, rounds_of, all_rounds, IsAlike, IsAlikeIn}
 use Rattle.dc_twin_rules.specs.Twins.{Admits, twin}
 use Rattle.dc_twin_rules.proofs.KeyedSums.{all_range}
 use Rattle.dc_twin_rules.proofs.Changes.{map-same}

@@ -1,5 +1,5 @@
 -- Edges of the forest, and their pairs in the key file.
-use Rattle.std.proofs.Common.{◌≡◌, ℕ, zero, suc, ◌+◌, ◌*◌, ◌<◌, ◌≤◌, ◌⊎◌, ◌==◌, ◌&&◌, ◌||◌, not, Bool, true, false, List, [], ◌∷◌, length, map, get_or, slice_index, slice_index_or, nat_eq, Option, Some, None, refl, sym, ◌∙◌, ap, subst, inl, inr, arith, eqb-true, true≢false, eq-or-lt_of_le}
+use Rattle.std.proofs.Common.{◌≡◌, ℕ, ◌+◌, ◌*◌, ◌<◌, ◌≤◌, ◌⊎◌, ◌==◌, ◌&&◌, ◌||◌, not, Bool, true, false, List, [], length, map, get_or, slice_index, slice_index_or, nat_eq, Option, Some, None, refl, sym, ◌∙◌, ap, subst, inl, inr, arith, eqb-true, true≢false, eq-or-lt_of_le}
 use Rattle.std.specs.List.{All, AllPairs, list_any}
 use Rattle.std.specs.List.Sorted.{IsStrictlyIncreasing}
 use Rattle.std.specs.Option.{option_map_or}
@@ -63,20 +63,26 @@ edge-pair net is i w joined =
     let rises : (found.1.0 < found.1.1) × (found.1.1 < net.stations) = subst (λ (e : ℕ × ℕ). (e.0 < e.1) × (e.1 < net.stations)) found.3 (is.graph found.0 found.1 found.2) in
     let up = rises.0 in
     let fails = none_found (λ (e : ℕ × ℕ). not (list_any (λ (q : Pair). (q.u == e.0) && (q.v == e.1)) net.keys.pairs)) net.edges
-        (map-none (λ (e : ℕ × ℕ). key_missing e.0 e.1) _ (all_agree net is.agrees).missing) found.0 found.1 found.2 in
+    (map-none (λ (e : ℕ × ℕ). key_missing e.0 e.1) _ (all_agree net is.agrees).missing) found.0 found.1 found.2 in
     let there : list_any (λ (q : Pair). (q.u == found.1.0) && (q.v == found.1.1)) net.keys.pairs ≡ true =
-        subst (λ (e : ℕ × ℕ). list_any (λ (q : Pair). (q.u == e.0) && (q.v == e.1)) net.keys.pairs ≡ true) found.3 (not_false _ fails) in
+    subst (λ (e : ℕ × ℕ). list_any (λ (q : Pair). (q.u == e.0) && (q.v == e.1)) net.keys.pairs ≡ true) found.3 (not_false _ fails) in
     elim (or_cases (nat_eq found.1.0 i && nat_eq found.1.1 w) (nat_eq found.1.0 w && nat_eq found.1.1 i) found.4) [
       | inl same ↦ (let parts = and_parts (nat_eq found.1.0 i) (nat_eq found.1.1 w) same in
           let at_u : found.1.0 ≡ i = eqb-true found.1.0 i parts.0 in
           let at_v : found.1.1 ≡ w = eqb-true found.1.1 w parts.1 in
-          inl (omega arith, subst (λ (a : ℕ). list_any (λ (q : Pair). (q.u == a) && (q.v == w)) net.keys.pairs ≡ true) at_u
-            (subst (λ (b : ℕ). list_any (λ (q : Pair). (q.u == found.1.0) && (q.v == b)) net.keys.pairs ≡ true) at_v there)))
+          inl (
+            omega arith,
+            subst (λ (a : ℕ). list_any (λ (q : Pair). (q.u == a) && (q.v == w)) net.keys.pairs ≡ true) at_u
+                (subst (λ (b : ℕ). list_any (λ (q : Pair). (q.u == found.1.0) && (q.v == b)) net.keys.pairs ≡ true) at_v there),
+          ))
       | inr same ↦ (let parts = and_parts (nat_eq found.1.0 w) (nat_eq found.1.1 i) same in
           let at_u : found.1.0 ≡ w = eqb-true found.1.0 w parts.0 in
           let at_v : found.1.1 ≡ i = eqb-true found.1.1 i parts.1 in
-          inr (omega arith, subst (λ (a : ℕ). list_any (λ (q : Pair). (q.u == a) && (q.v == i)) net.keys.pairs ≡ true) at_u
-            (subst (λ (b : ℕ). list_any (λ (q : Pair). (q.u == found.1.0) && (q.v == b)) net.keys.pairs ≡ true) at_v there)))
+          inr (
+            omega arith,
+            subst (λ (a : ℕ). list_any (λ (q : Pair). (q.u == a) && (q.v == i)) net.keys.pairs ≡ true) at_u
+                (subst (λ (b : ℕ). list_any (λ (q : Pair). (q.u == found.1.0) && (q.v == b)) net.keys.pairs ≡ true) at_v there),
+          ))
     ]
 
 -- whether a station is the smaller end of a pair with another, and whether it is the larger one
@@ -87,17 +93,21 @@ abbrev pub is_larger_end : List Pair → ℕ → ℕ → Bool
 is_larger_end pairs i w = list_any (λ q. (q.v == i) && nat_eq w q.u) pairs
 
 no_smaller : (pairs : List Pair) → All (λ q. q.u < q.v) pairs → (i w : ℕ) → w < i → is_smaller_end pairs i w ≡ false
-no_smaller pairs up i w less = list_any_none (λ q. (q.u == i) && nat_eq w q.v) pairs (All-weaker (λ q. q.u < q.v) (λ q. ((q.u == i) && nat_eq w q.v) ≡ false) (λ q rises. none q rises (cases_Bool ((q.u == i) && nat_eq w q.v))) pairs up)
+no_smaller pairs up i w less = list_any_none (λ q. (q.u == i) && nat_eq w q.v) pairs (All-weaker (λ q. q.u < q.v) (λ q. ((q.u == i) && nat_eq w q.v)
+    ≡ false) (λ q rises. none q rises (cases_Bool ((q.u == i) && nat_eq w q.v))) pairs up)
   where
     none : (q : Pair) → q.u < q.v → ((((q.u == i) && nat_eq w q.v) ≡ true) ⊎ (((q.u == i) && nat_eq w q.v) ≡ false)) → ((q.u == i) && nat_eq w q.v) ≡ false
-    none q rises (inl yes_it) = (let parts = and_parts (q.u == i) (nat_eq w q.v) yes_it in let a : q.u ≡ i = eqb-true q.u i parts.0 in let b : w ≡ q.v = eqb-true w q.v parts.1 in absurd (omega arith))
+    none q rises (inl yes_it) = (let parts = and_parts (q.u == i) (nat_eq w q.v) yes_it in let a : q.u ≡ i = eqb-true q.u i parts.0 in let b : w
+        ≡ q.v = eqb-true w q.v parts.1 in absurd (omega arith))
     none q rises (inr no_it) = no_it
 
 no_larger : (pairs : List Pair) → All (λ q. q.u < q.v) pairs → (i w : ℕ) → i < w → is_larger_end pairs i w ≡ false
-no_larger pairs up i w less = list_any_none (λ q. (q.v == i) && nat_eq w q.u) pairs (All-weaker (λ q. q.u < q.v) (λ q. ((q.v == i) && nat_eq w q.u) ≡ false) (λ q rises. none q rises (cases_Bool ((q.v == i) && nat_eq w q.u))) pairs up)
+no_larger pairs up i w less = list_any_none (λ q. (q.v == i) && nat_eq w q.u) pairs (All-weaker (λ q. q.u < q.v) (λ q. ((q.v == i) && nat_eq w q.u)
+    ≡ false) (λ q rises. none q rises (cases_Bool ((q.v == i) && nat_eq w q.u))) pairs up)
   where
     none : (q : Pair) → q.u < q.v → ((((q.v == i) && nat_eq w q.u) ≡ true) ⊎ (((q.v == i) && nat_eq w q.u) ≡ false)) → ((q.v == i) && nat_eq w q.u) ≡ false
-    none q rises (inl yes_it) = (let parts = and_parts (q.v == i) (nat_eq w q.u) yes_it in let a : q.v ≡ i = eqb-true q.v i parts.0 in let b : w ≡ q.u = eqb-true w q.u parts.1 in absurd (omega arith))
+    none q rises (inl yes_it) = (let parts = and_parts (q.v == i) (nat_eq w q.u) yes_it in let a : q.v ≡ i = eqb-true q.v i parts.0 in let b : w
+        ≡ q.u = eqb-true w q.u parts.1 in absurd (omega arith))
     none q rises (inr no_it) = no_it
 
 pub rising-pairs : (k : Keys) → IsKeys k → All (λ q. q.u < q.v) k.pairs
@@ -109,12 +119,16 @@ pub one-end : (net : Net) → IsNet net → (i w : ℕ) → are_neighbours (key_
 one-end net is i w joined =
     let up = rising-pairs net.keys is.keys in
     elim (edge-pair net is i w joined) [
-      | inl here ↦ inl (any_weaker (λ (q : Pair). (q.u == i) && (q.v == w)) (λ (q : Pair). (q.u == i) && nat_eq w q.v) net.keys.pairs
-          (λ q h. (let parts = and_parts (q.u == i) (q.v == w) h in and_from (q.u == i) (nat_eq w q.v) parts.0 (nat_eq-comm w q.v ∙ parts.1))) here.1,
-        no_larger net.keys.pairs up i w here.0)
-      | inr here ↦ inr (no_smaller net.keys.pairs up i w here.0,
+      | inl here ↦ inl (
+        any_weaker (λ (q : Pair). (q.u == i) && (q.v == w)) (λ (q : Pair). (q.u == i) && nat_eq w q.v) net.keys.pairs
+            (λ q h. (let parts = and_parts (q.u == i) (q.v == w) h in and_from (q.u == i) (nat_eq w q.v) parts.0 (nat_eq-comm w q.v ∙ parts.1))) here.1,
+        no_larger net.keys.pairs up i w here.0,
+      )
+      | inr here ↦ inr (
+        no_smaller net.keys.pairs up i w here.0,
         any_weaker (λ (q : Pair). (q.u == w) && (q.v == i)) (λ (q : Pair). (q.v == i) && nat_eq w q.u) net.keys.pairs
-          (λ q h. (let parts = and_parts (q.u == w) (q.v == i) h in and_from (q.v == i) (nat_eq w q.u) parts.1 (nat_eq-comm w q.u ∙ parts.0))) here.1)
+            (λ q h. (let parts = and_parts (q.u == w) (q.v == i) h in and_from (q.v == i) (nat_eq w q.u) parts.1 (nat_eq-comm w q.u ∙ parts.0))) here.1,
+      )
     ]
 
 -- ends in order, as one number
@@ -134,23 +148,23 @@ pairs-apart k is =
     let count = length-map k.pairs ends in
     let rises : IsStrictlyIncreasing (map code k.pairs) = λ j within.
     (let low : j < length k.pairs = omega arith in
-        let next : j + 1 < length k.pairs = omega arith in
-        let x = get_or k.pairs j none in
-        let y = get_or k.pairs (j + 1) none in
-        let before : AreEndsBefore (x.u, x.v) (y.u, y.v) = subst (λ (e : ℕ × ℕ). AreEndsBefore e (y.u, y.v)) (get_or-map ends k.pairs j none (0, 0) low)
-            (subst (λ (e : ℕ × ℕ). AreEndsBefore (get_or (map ends k.pairs) j (0, 0)) e) (get_or-map ends k.pairs (j + 1) none (0, 0) next) (is.rising j (0, 0) (omega arith))) in
-        let first : slice_index (map code k.pairs) j ≡ x.u * 256 + x.v = get_or-map code k.pairs j none 0 low in
-        let second : slice_index (map code k.pairs) (j + 1) ≡ y.u * 256 + y.v = get_or-map code k.pairs (j + 1) none 0 next in
-        let within_x : x.v < k.stations = (is.are_pairs j none low).within in
-        let most : k.stations ≤ 256 = is.most_stations in
-        let less = code_less x.u x.v y.u y.v before.lesser before.greater (omega arith) in
-        omega arith) in
+    let next : j + 1 < length k.pairs = omega arith in
+    let x = get_or k.pairs j none in
+    let y = get_or k.pairs (j + 1) none in
+    let before : AreEndsBefore (x.u, x.v) (y.u, y.v) = subst (λ (e : ℕ × ℕ). AreEndsBefore e (y.u, y.v)) (get_or-map ends k.pairs j none (0, 0) low)
+    (subst (λ (e : ℕ × ℕ). AreEndsBefore (get_or (map ends k.pairs) j (0, 0)) e) (get_or-map ends k.pairs (j + 1) none (0, 0) next) (is.rising j (0, 0) (omega arith))) in
+    let first : slice_index (map code k.pairs) j ≡ x.u * 256 + x.v = get_or-map code k.pairs j none 0 low in
+    let second : slice_index (map code k.pairs) (j + 1) ≡ y.u * 256 + y.v = get_or-map code k.pairs (j + 1) none 0 next in
+    let within_x : x.v < k.stations = (is.are_pairs j none low).within in
+    let most : k.stations ≤ 256 = is.most_stations in
+    let less = code_less x.u x.v y.u y.v before.lesser before.greater (omega arith) in
+    omega arith) in
     λ i j d less within same_u same_v.
     (let x = get_or k.pairs i d in
-        let y = get_or k.pairs j d in
-        let lt : get_or (map code k.pairs) i (code d) < get_or (map code k.pairs) j (code d) = AllPairs-from_increasing (map code k.pairs) rises i j (code d) less (omega arith) in
-        let at_i : get_or (map code k.pairs) i (code d) ≡ x.u * 256 + x.v = get_or-map_default code k.pairs i d in
-        let at_j : get_or (map code k.pairs) j (code d) ≡ y.u * 256 + y.v = get_or-map_default code k.pairs j d in
-        let one : x.u ≡ y.u = same_u in
-        let other : x.v ≡ y.v = same_v in
-        absurd (omega arith))
+    let y = get_or k.pairs j d in
+    let lt : get_or (map code k.pairs) i (code d) < get_or (map code k.pairs) j (code d) = AllPairs-from_increasing (map code k.pairs) rises i j (code d) less (omega arith) in
+    let at_i : get_or (map code k.pairs) i (code d) ≡ x.u * 256 + x.v = get_or-map_default code k.pairs i d in
+    let at_j : get_or (map code k.pairs) j (code d) ≡ y.u * 256 + y.v = get_or-map_default code k.pairs j d in
+    let one : x.u ≡ y.u = same_u in
+    let other : x.v ≡ y.v = same_v in
+    absurd (omega arith))

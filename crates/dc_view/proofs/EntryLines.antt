@@ -1,5 +1,5 @@
 -- The lines of entries, by what a log tells of an entry.
-use Rattle.std.proofs.Common.{◌≡◌, ℕ, ◌<◌, List, [], ◌∷◌, ◌++◌, length, get_or, zero, suc, Option, Some, None, refl, arith, append_assoc}
+use Rattle.std.proofs.Common.{◌≡◌, ℕ, ◌<◌, List, [], ◌∷◌, ◌++◌, length, get_or, zero, suc, Some, None, refl, arith, append_assoc}
 use Rattle.std.specs.Prelude.{codes, decimal, option_map, slice_get}
 use Rattle.dc_spec.specs.Text.{line}
 use Rattle.dc_spec.specs.Entries.{Entry, short, long, entry_bytes}

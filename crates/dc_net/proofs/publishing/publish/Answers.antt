@@ -11,8 +11,11 @@ push_rules-requires-clause-within c =
 
 pub returns-clause-row : goal.returns-clause-row
 returns-clause-row c = λ f are.
-    row_published c.args.coalition.now c.args.stations c.args.says.now c.args.words.now.words c.args.honest.now c.push_row.new.words.words c.truncate-2.new.self.words c.as_slice-2.result.now c.push_row-2.new.words.words f are
+    row_published c.args.coalition.now c.args.stations c.args.says.now c.args.words.now.words c.args.honest.now c.push_row.new.words.words c.truncate-2.new.self.words
+    c.as_slice-2.result.now c.push_row-2.new.words.words f are
     c.requires.members c.push_row.ensures.row
-    (c.as_slice-2.ensures ∙ ap (λ (l : Kept). l.words) c.push_rules.ensures ∙ ap (λ (l : Kept). l.words ++ rule_words c.args.says.now c.as_slice.result.now c.args.stations) c.truncate.ensures ∙ ap (λ (ws : List (List ℕ)). rule_words c.args.says.now ws c.args.stations) c.as_slice.ensures)
+    (c.as_slice-2.ensures ∙ ap (λ (l : Kept). l.words) c.push_rules.ensures
+    ∙ ap (λ (l : Kept). l.words ++ rule_words c.args.says.now c.as_slice.result.now c.args.stations) c.truncate.ensures
+    ∙ ap (λ (ws : List (List ℕ)). rule_words c.args.says.now ws c.args.stations) c.as_slice.ensures)
     (ap (λ (l : Kept). l.words) c.truncate-2.ensures ∙ ap (λ (ws : List (List ℕ)). take (length ws) c.push_row.new.words.words) c.as_slice-before.ensures)
     c.push_row-2.ensures.row

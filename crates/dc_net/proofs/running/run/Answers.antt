@@ -10,13 +10,17 @@ use Rattle.dc_net.proofs.RunIs.{run_is}
 use Rattle.dc_net.proofs.running.run.Goals as goal
 
 pub play-requires-clause-seats : goal.play-requires-clause-seats
-play-requires-clause-seats g c = λ κs lives. c.deref_mut.ensures.value ∙ c.in_ok-seats.ensures ∙ ap (λ (played : List Round). seats_after c.net-net.result.now played) (sym (rounds_none c.net-net.result.now))
+play-requires-clause-seats g c = λ κs lives. c.deref_mut.ensures.value ∙ c.in_ok-seats.ensures
+    ∙ ap (λ (played : List Round). seats_after c.net-net.result.now played) (sym (rounds_none c.net-net.result.now))
 
 pub play-requires-clause-recorded : goal.play-requires-clause-recorded
-play-requires-clause-recorded g c = λ κs lives. subst (λ (played : List Round). IsRecorded c.net-net.result.now played c.in_ok-book.book) (sym (rounds_none c.net-net.result.now)) c.in_ok-book.ensures
+play-requires-clause-recorded g c = λ κs lives. subst (λ (played : List Round). IsRecorded c.net-net.result.now played c.in_ok-book.book)
+    (sym (rounds_none c.net-net.result.now)) c.in_ok-book.ensures
 
 pub returns : goal.returns
 returns g c =
     let kept = with_items_is c.in_ok-seats.seats c.play.new.seats (let long = c.play.auto.seats in let len = c.deref_mut.ensures.len in omega arith) in
-    let is = run_is c.net-net.result.now (with_items c.in_ok-seats.seats c.play.new.seats).items (record { words = c.play.new.book.words; sums = c.play.new.book.sums; delivered = c.play.new.book.delivered; said = c.play.new.book.said }) (kept ∙ c.in_ok-play.ensures.seats) c.in_ok-play.ensures.recorded in
+    let is = run_is c.net-net.result.now (with_items c.in_ok-seats.seats c.play.new.seats).items
+    (record { words = c.play.new.book.words; sums = c.play.new.book.sums; delivered = c.play.new.book.delivered; said = c.play.new.book.said }) (kept
+    ∙ c.in_ok-play.ensures.seats) c.in_ok-play.ensures.recorded in
     subst (λ (r : Run). IfOk c.finished.result (λ played. played ≡ r)) (is ∙ ap run_of c.net-net.ensures.value) c.finished.ensures

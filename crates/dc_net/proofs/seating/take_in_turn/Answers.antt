@@ -6,5 +6,7 @@ use Rattle.dc_net.proofs.seating.take_in_turn.Goals as goal
 pub loop-seat-preserved : goal.loop-seat-preserved
 loop-seat-preserved c =
     let heard = c.args.heard.now.words in
-    ap (λ (s : SeatState). slice_set c.loop-seat.seat-items c.loop-seat.seat-index s) (c.take.ensures ∙ ap (with_heard c.args.heard.now.words) (sym c.seat-item.is))
-    ∙ map_over_more (with_heard c.args.heard.now.words) c.args.seats.now c.loop-seat.seat-items c.loop-seat.seat-index c.seat-item.result c.loop-seat-test.true c.loop-seat.invariant c.seat-item.is
+    ap (λ (s : SeatState). slice_set c.loop-seat.seat-items c.loop-seat.seat-index s) (c.take.ensures
+    ∙ ap (with_heard c.args.heard.now.words) (sym c.seat-item.is))
+    ∙ map_over_more (with_heard c.args.heard.now.words) c.args.seats.now c.loop-seat.seat-items c.loop-seat.seat-index c.seat-item.result c.loop-seat-test.true c.loop-seat.invariant
+    c.seat-item.is

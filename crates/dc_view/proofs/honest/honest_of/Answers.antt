@@ -1,5 +1,4 @@
-use Rattle.std.proofs.Common.{◌+◌, not, filter, arith}
-use Rattle.std.specs.List.{range_with_len}
+use Rattle.std.proofs.Common.{not, arith}
 use Rattle.std.proofs.lemmas.List.{append-nil}
 use Rattle.dc_spec.specs.Lists.{is_among}
 use Rattle.dc_view.proofs.ListSteps.{filter-range_more}

@@ -1,6 +1,4 @@
-use Rattle.std.proofs.Common.{◌≡◌, ◌-◌, ◌++◌, List, ℕ, rules, arith, ap, ◌∙◌}
-use Rattle.std.specs.List.{flat_map, range_with_len}
-use Rattle.std.proofs.lemmas.List.Concat.{flat_map-append}
+use Rattle.std.proofs.Common.{rules, arith}
 use Rattle.dc_formats.specs.WordLines.{pair_word_line, items_of_round}
 use Rattle.dc_view.proofs.PutSoFar.{PutSoFar-then, PutSoFar-stops}
 use Rattle.dc_view.proofs.ListSteps.{flat_map-range}

@@ -1,4 +1,4 @@
-use Rattle.std.proofs.Common.{◌+◌, take, get_or, length, min, arith}
+use Rattle.std.proofs.Common.{take, get_or, arith}
 use Rattle.std.specs.Prelude.{codes, zip}
 use Rattle.std.proofs.lemmas.List.{take_all}
 use Rattle.std.proofs.lemmas.Slice.Zip.{length-zip}

@@ -1,11 +1,11 @@
-use Rattle.std.proofs.Common.{◌≡◌, [], length, get_or, refl, ap, rules, arith, ◌∙◌}
+use Rattle.std.proofs.Common.{◌≡◌, [], length, get_or, refl, ap, rules}
 use Rattle.std.specs.Prelude.{slice_index_or}
 use Rattle.std.proofs.lemmas.List.{get_or_read}
 use Rattle.dc_spec.specs.Net.{Net, Run}
 use Rattle.dc_edge.proofs.PutLemmas.{Puts-then, Puts-stops}
 use Rattle.dc_formats.specs.WordLines.{items_of_round}
 use Rattle.dc_net_rules.specs.Runs.{honest_stations}
-use Rattle.dc_view.proofs.RoundText.{published_piece, received_piece, round_text-pieces}
+use Rattle.dc_view.proofs.RoundText.{round_text-pieces}
 use Rattle.dc_view.proofs.rounds.put_round.Goals as goal
 
 pub returns-in_err-put_published : goal.returns-in_err-put_published

@@ -1,6 +1,5 @@
-use Rattle.std.proofs.Common.{◌≡◌, ◌≤◌, length, refl, ap, rules, ◌∙◌, sym, arith}
+use Rattle.std.proofs.Common.{◌≡◌, length, refl, ap, rules, ◌∙◌, arith}
 use Rattle.dc_spec.specs.Net.{Net, Run}
-use Rattle.dc_spec.specs.Scripts.{Turn}
 use Rattle.dc_edge.proofs.PutLemmas.{Puts-then, Puts-stops}
 use Rattle.dc_net_rules.proofs.RunSizes.{length-sums}
 use Rattle.dc_view.proofs.ViewText.{view_text-pieces}

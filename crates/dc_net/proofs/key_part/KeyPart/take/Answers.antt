@@ -8,7 +8,8 @@ use Rattle.dc_net.proofs.key_part.KeyPart.take.Goals as goal
 -- one word more
 more : (m mask : MaskState) (keys : Keys) (station : ℕ) (received : List (List ℕ)) (w : List ℕ) → mask.second ≡ m.second
     → ((pads : StationPads) (history : List (List ℕ)) → StandsFor m pads history → StandsFor mask pads (history ++ w ∷ []))
-    → KeyStandsFor (record { taken = m.taken; total = session_words m; mask = m }) keys station received → KeyStandsFor (record { taken = mask.taken; total = session_words mask; mask = mask }) keys station (received ++ w ∷ [])
+    → KeyStandsFor (record { taken = m.taken; total = session_words m; mask = m }) keys station received
+    → KeyStandsFor (record { taken = mask.taken; total = session_words mask; mask = mask }) keys station (received ++ w ∷ [])
 more m mask keys station received w same takes stands =
     let next = takes (station_pads keys station) received stands.stands in
     record {

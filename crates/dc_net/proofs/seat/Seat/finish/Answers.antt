@@ -12,9 +12,11 @@ returns-clause-log c =
 pub returns-clause-sent : goal.returns-clause-sent
 returns-clause-sent c =
     let received = column c.self.inside.seats c.self.inside.place c.self.inside.heard.value.words in
-    c.into_log-2.ensures c.self.inside.stream.now c.self.inside.file.now.words received c.self.invariant.sends ∙ ap (λ (s : SeatState). sent_of s.stream s.received) c.self.view_is
+    c.into_log-2.ensures c.self.inside.stream.now c.self.inside.file.now.words received c.self.invariant.sends
+    ∙ ap (λ (s : SeatState). sent_of s.stream s.received) c.self.view_is
 
 pub returns-clause-pending : goal.returns-clause-pending
 returns-clause-pending c =
     let received = column c.self.inside.seats c.self.inside.place c.self.inside.heard.value.words in
-    c.pending-pending.ensures c.self.inside.file.now.words received c.self.invariant.sends ∙ ap (λ (s : SeatState). pending_counts s.stream s.received) c.self.view_is
+    c.pending-pending.ensures c.self.inside.file.now.words received c.self.invariant.sends
+    ∙ ap (λ (s : SeatState). pending_counts s.stream s.received) c.self.view_is

@@ -15,8 +15,10 @@ invariant_of-result c =
     let e = nothing_heard c.of.result.value.words c.args.heard.now.words c.args.seats c.args.place (ap (λ l. l.words) c.of.ensures) c.requires in
     let words : c.file.inside.words ≡ c.args.file.now.words = ap (λ (k : Keys). k.words) c.file.view_is in
     record {
-      receives = subst (λ (xs : List (List ℕ)). ReceiverStandsFor c.in_ok-receiver.receiver c.args.file.now.words xs) e (subst (λ (total : ℕ). ReceiverStandsFor c.in_ok-receiver.receiver total []) words c.in_ok-receiver.ensures);
-      sends = subst (λ (xs : List (List ℕ)). SenderStandsFor c.in_ok-sender.sender c.args.stream.now c.args.file.now.words xs) e (subst (λ (total : ℕ). SenderStandsFor c.in_ok-sender.sender c.args.stream.now total []) words (c.in_ok-sender.ensures.stands c.args.stream.now));
+      receives = subst (λ (xs : List (List ℕ)). ReceiverStandsFor c.in_ok-receiver.receiver c.args.file.now.words xs) e
+          (subst (λ (total : ℕ). ReceiverStandsFor c.in_ok-receiver.receiver total []) words c.in_ok-receiver.ensures);
+      sends = subst (λ (xs : List (List ℕ)). SenderStandsFor c.in_ok-sender.sender c.args.stream.now c.args.file.now.words xs) e
+          (subst (λ (total : ℕ). SenderStandsFor c.in_ok-sender.sender c.args.stream.now total []) words (c.in_ok-sender.ensures.stands c.args.stream.now));
       own = c.in_ok-sender.ensures.own c.args.stream.now;
       keyed = subst (λ (xs : List (List ℕ)). KeyStandsFor c.in_ok-keys.keys c.args.file.now c.args.station xs) e c.in_ok-keys.ensures;
     }

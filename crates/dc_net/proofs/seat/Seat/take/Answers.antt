@@ -9,10 +9,20 @@ use Rattle.dc_net.proofs.seat.Seat.take.Goals as goal
 
 pub invariant_of-self : goal.invariant_of-self
 invariant_of-self c =
-    let seat : SeatState = record { stream = c.self.inside.stream.now; keys = c.self.inside.file.now; station = c.self.inside.station; received = column c.self.inside.seats c.self.inside.place c.self.inside.heard.value.words; place = c.self.inside.place; seats = c.self.inside.seats } in
+    let seat : SeatState = record {
+      stream = c.self.inside.stream.now;
+      keys = c.self.inside.file.now;
+      station = c.self.inside.station;
+      received = column c.self.inside.seats c.self.inside.place c.self.inside.heard.value.words;
+      place = c.self.inside.place;
+      seats = c.self.inside.seats;
+    } in
     let heard = c.args.heard.now.words in
     let next : HearsNext heard seat = subst (λ (s : SeatState). HearsNext heard s) (sym c.self.view_is) c.requires in
     let stands = SeatStandsFor-more heard seat c.index-words-words.result _ c.receive.new.self _ c.take.new.self _ c.take-2.new.self c.self.invariant next
-    (c.index-words-words.is ∙ ap (λ (xs : List (List ℕ)). get_or xs (length xs - c.self.inside.seats + c.self.inside.place) c.index-words-words.result) c.as_slice-words.ensures ∙ get_or_default heard (length heard - c.self.inside.seats + c.self.inside.place) c.index-words-words.result zero_word (let e = next.count in let p = next.place in omega arith))
+    (c.index-words-words.is
+    ∙ ap (λ (xs : List (List ℕ)). get_or xs (length xs - c.self.inside.seats + c.self.inside.place) c.index-words-words.result) c.as_slice-words.ensures
+    ∙ get_or_default heard (length heard - c.self.inside.seats + c.self.inside.place) c.index-words-words.result zero_word
+    (let e = next.count in let p = next.place in omega arith))
     (c.receive.ensures.stands) (c.take.ensures.own) (c.take.ensures.stands) c.take-2.ensures in
     subst (λ (k : Kept). SeatStandsFor c.receive.new.self c.take.new.self c.take-2.new.self (with_heard k.words seat)) (sym c.of.ensures) stands
