@@ -1,6 +1,6 @@
 //! The stations that work together against the others.
 
-ghost use Rattle.std.specs.Prelude.{◌≡◌, length, IfOk};
+ghost use Rattle.std.specs.Prelude.{◌≡◌, [], length, IfOk};
 ghost use Rattle.dc_spec.specs.Lists.{is_among};
 ghost use Rattle.dc_graph.specs.Graph.{AreMembers};
 ghost use Rattle.dc_graph.specs.Faults.{MakesCoalition};
@@ -41,6 +41,15 @@ impl Coalition {
                 kept.sort_unstable();
                 Ok(Coalition { members: kept })
             }
+        }
+    }
+
+    /// The coalition without a member. It takes no memory.
+    pub fn empty(alloc: Global) -> Coalition
+        ensures { result ≡ [] }
+    {
+        Coalition {
+            members: Vec::new(alloc),
         }
     }
 

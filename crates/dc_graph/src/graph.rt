@@ -47,6 +47,14 @@ impl Graph {
         }
     }
 
+    /// The graph of `n` stations with these edges, which are in order. It takes no memory.
+    pub fn of_rising(n: u16, edges: Vec<(u16, u16)>) -> Graph
+        requires { IsGraph (record { stations = n; edges = edges.items }) }
+        ensures { result ≡ record { stations = n; edges = edges.items } }
+    {
+        Graph { stations: n, edges }
+    }
+
     /// The number of stations.
     pub fn stations(&self) -> u16
         ensures value { result ≡ self.now.stations }

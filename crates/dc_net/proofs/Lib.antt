@@ -14,3 +14,5 @@ pub mod Recording
 pub mod SeatRounds
 pub mod Finishing
 pub mod RunIs
+pub mod TrialLists
+pub mod TrialAgrees

@@ -8,3 +8,4 @@ pub mod Seat
 pub mod WordList
 pub mod Rows
 pub mod Run
+pub mod TrialNets

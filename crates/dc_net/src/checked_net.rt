@@ -32,6 +32,14 @@ impl Model for CheckedNet {
 }
 
 impl CheckedNet {
+    /// A net whose parts are known to agree, as a checked one.
+    pub(crate) fn of_agreeing(net: Net) -> CheckedNet
+        requires { IsChecked net }
+        ensures { result ≡ net }
+    {
+        CheckedNet { net }
+    }
+
     /// The net that was checked.
     pub fn net(&self) -> &Net
         ensures value { result.now ≡ self.now }

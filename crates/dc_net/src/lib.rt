@@ -19,6 +19,7 @@ mod seat;
 mod seating;
 mod stations;
 mod stream_checks;
+mod trial;
 mod word_list;
 
 pub use checked_net::CheckedNet;
@@ -26,3 +27,4 @@ pub use fault::NetFault;
 pub use net::{Net, Streams};
 pub use played::{Logs, Pendings, Played};
 pub use running::run;
+pub use trial::trial_net;

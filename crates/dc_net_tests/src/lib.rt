@@ -8,4 +8,6 @@ mod check_tests;
 #[cfg(test)]
 mod run_tests;
 #[cfg(test)]
+mod trial_tests;
+#[cfg(test)]
 mod view_tests;

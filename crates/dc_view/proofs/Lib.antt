@@ -6,3 +6,4 @@ pub mod KnownPads
 pub mod ViewText
 pub mod GatherLemmas
 pub mod EntryLines
+pub mod TrialText
