@@ -2,6 +2,7 @@ pub mod Outcomes
 pub mod Pieces
 pub mod KeyFaultText
 pub mod ManifestFaultText
+pub mod NetFaultTexts
 pub mod Lines
 pub mod Forms
 pub mod Commands
@@ -9,5 +10,6 @@ pub mod Reading
 pub mod Summing
 pub mod Making
 pub mod Keygen
+pub mod Replaying
 pub mod Ran
 pub mod Promises

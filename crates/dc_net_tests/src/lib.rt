@@ -6,4 +6,6 @@ mod answers;
 #[cfg(test)]
 mod check_tests;
 #[cfg(test)]
+mod file_tests;
+#[cfg(test)]
 mod view_tests;
