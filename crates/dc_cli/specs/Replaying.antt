@@ -1,13 +1,14 @@
 -- The command `replay`: the net of a manifest is read and run, and the view of the run is put.
-use Rattle.std.specs.Prelude.{ℕ, ◌≡◌, List, Result, Ok, Err}
-use Rattle.dc_spec.specs.Outside.{ShelfState, SinkState}
+use Rattle.std.specs.Prelude.{ℕ, ◌≡◌, List, [], All, Result, Ok, Err}
+use Rattle.dc_spec.specs.Outside.{ShelfState, SinkState, Tells, grown}
 use Rattle.dc_spec.specs.Net.{Net}
 use Rattle.dc_edge.specs.Sink.{Puts}
 use Rattle.dc_edge.specs.declared.fault.Failed.{Failed}
 use Rattle.dc_net_rules.specs.Runs.{run_of}
 use Rattle.dc_run_texts.specs.View.{view_text}
 use Rattle.dc_net_files.specs.Parts.{net_step}
-use Rattle.dc_net_files.specs.Reading.{NetRead}
+use Rattle.dc_net_files.specs.Steps.{File, makes, names_of, bytes_of}
+use Rattle.dc_net_files.specs.Reading.{NetRead, AreNeeded}
 use Rattle.dc_net_files.specs.Settled.{SettledByHeld}
 use Rattle.dc_net_files.specs.declared.fault.NetFileFault.{NetFileFault}
 use Rattle.dc_net_files.specs.declared.fault.NetFileFault.TheVariants as files
@@ -64,3 +65,14 @@ ReplayRan name shelf shelf' out out' Done = PutView name shelf shelf' out out' (
 ReplayRan name shelf shelf' out out' SinkFault = (failed : Failed) × PutView name shelf shelf' out out' (Err failed)
 ReplayRan name shelf shelf' out out' NoMemory = (out' ≡ out) × ((answer : Result Net NotRead) × ReadsNet name shelf shelf' answer)
 ReplayRan name shelf shelf' out out' other = (out' ≡ out) × RefusesNet name shelf shelf' other
+
+-- the view that was printed is that of the run of the net which the files make that the shelf was asked for: each is the one that
+-- was needed next, and has the bytes that the shelf reports
+pub record ViewPrinted (name : List ℕ) (shelf shelf' : ShelfState) (out out' : SinkState) : Type 0 where
+  pub files : List File
+  pub needed : AreNeeded (net_step name) files
+  pub told : All (λ file. Tells (shelf.holds file.name) file.bytes) files
+  pub net : Net
+  pub made : net_step name (bytes_of files) ≡ makes net []
+  pub asked : shelf'.asked ≡ grown shelf.asked (names_of files)
+  pub written : out'.written ≡ grown out.written (view_text net (run_of net))
