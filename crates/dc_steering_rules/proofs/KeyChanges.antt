@@ -6,9 +6,9 @@ use Rattle.std.proofs.lemmas.List.Sums.{sum_by-cons}
 use Rattle.dc_spec.specs.Pads.{Pair}
 use Rattle.dc_key_rules.specs.PairKeys.{symbols, key_symbol, key_word, key_part, pads_add, changed_pair}
 use Rattle.dc_spec.proofs.WordLemmas.{symbol-word_of}
+use Rattle.dc_key_rules.proofs.KeyLemmas.{key_part-symbol}
 use Rattle.dc_twin_rules.proofs.PadSums.{pads_add-at}
 use Rattle.dc_twin_rules.proofs.KeyedSums.{sum_by-kept, sum_by-mod_plus, all_range}
-use Rattle.dc_twin_rules.proofs.KeyGains.{key_part-symbol}
 use Rattle.dc_steering_rules.specs.Steerings.{has_ends}
 
 -- what changes x of the first pads and y of the second pads add to a symbol of the pair's key

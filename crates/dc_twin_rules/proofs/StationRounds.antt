@@ -94,8 +94,6 @@ keys-meet_demand net p is alike admits t within i low honest l few =
     let low_u : All (λ (q : Pair). q.u < n) pairs = λ k e less. (let bound = (is.keys.are_pairs k e less).within in let up = (is.keys.are_pairs k e less).ends in omega arith) in
     let apart = pairs-apart net.keys is.keys in
     let gains = key-gains net p is h t l (length-history net t i) within few B (λ c. refl) in
-    let plus = end-gain (λ q. q.u) (λ q. q.v) f change X n i pairs (λ k e less. kept-u _ _) gains low_v apart in
-    let minus = end-gain (λ q. q.v) (λ q. q.u) f change Y n i pairs (λ k e less. kept-v _ _) gains low_u (λ j k e less inside same_v same_u. apart j k e less inside same_u same_v) in
     let smaller : ℕ → ℕ = λ w. cond (is_smaller_end pairs i w) (X i w) 0 in
     let larger : ℕ → ℕ = λ w. cond (is_larger_end pairs i w) (Y i w) 0 in
     let kid : ℕ → ℕ = λ w. cond (is_parent ps i w) (B w) 0 in
@@ -133,6 +131,8 @@ keys-meet_demand net p is alike admits t within i low honest l few =
     ∙ joined_mod (sum_by larger stations) (sum_by own stations) (B i) parent_counts in
     let old = key_part-symbol pairs i h l few in
     let new = key_part-symbol (map change pairs) i h l few in
+    let plus = end-gain (λ q. q.u) (λ q. q.v) f change X n i pairs (λ k e less. kept-u _ _) gains low_v apart in
+    let minus = end-gain (λ q. q.v) (λ q. q.u) f change Y n i pairs (λ k e less. kept-v _ _) gains low_u (λ j k e less inside same_v same_u. apart j k e less inside same_u same_v) in
     let closes = closing (sum_by f (filter (λ q. q.u == i) pairs)) (sum_by f (filter (λ q. q.u == i) (map change pairs))) (sum_by f (filter (λ q. q.v == i) pairs)) (sum_by f (filter
     (λ q. q.v == i) (map change pairs)))
     (sum_by smaller stations) (sum_by larger stations) (sum_by B (children ps i)) (B i) (slice_index (word_of_station d i) l) plus minus together needs in
