@@ -1,14 +1,13 @@
 -- What the premises of the laws of steerings give.
-use Rattle.std.proofs.Common.{◌≡◌, ℕ, zero, suc, ◌+◌, ◌*◌, ◌/◌, ◌<◌, ◌≤◌, ◌&&◌, ◌||◌, ◌==◌, not, Bool, true, false, cond, List, [], ◌∷◌, length, filter, find, get_or, refl, sym, ◌∙◌, ap, subst, inl, inr, arith, zero-le, true≢false}
-use Rattle.std.specs.List.{All, AllPairs, list_any, range_with_len}
-use Rattle.std.proofs.lemmas.Bool.{and_parts, cases_Bool}
+use Rattle.std.proofs.Common.{◌≡◌, ℕ, zero, suc, ◌*◌, ◌/◌, ◌<◌, ◌||◌, not, Bool, true, false, cond, List, [], ◌∷◌, length, filter, get_or, refl, sym, ◌∙◌, ap, subst, inl, inr, arith, zero-le, true≢false}
+use Rattle.std.specs.List.{AllPairs, list_any, range_with_len}
+use Rattle.std.proofs.lemmas.Bool.{and_parts}
 use Rattle.std.proofs.lemmas.List.Folds.{Any-from_list_any}
 use Rattle.dc_spec.specs.Lists.{is_among}
 use Rattle.dc_spec.specs.Pads.{Pair}
 use Rattle.dc_spec.specs.Net.{Net}
-use Rattle.dc_spec.proofs.Booleans.{or_cases}
 use Rattle.dc_spec.proofs.ListLemmas.{passes_kept, in_range}
-use Rattle.dc_graph_rules.specs.Graphs.{key_graph, has_edge, are_neighbours}
+use Rattle.dc_graph_rules.specs.Graphs.{has_edge}
 use Rattle.dc_net_rules.specs.Nets.{IsNet}
 use Rattle.dc_net_rules.specs.Runs.{script_turn, IsHonest}
 use Rattle.dc_net_rules.proofs.Agreeing.{all_agree}

@@ -1,6 +1,6 @@
 -- Equally many key lists: where two honest neighbours first received different words in a round, the
 -- pads of their pair that give one list of later sums, and those that give another.
-use Rattle.std.specs.Prelude.{ℕ, ◌+◌, ◌*◌, ◌/◌, ◌<◌, ◌≡◌, ◌≢◌, List, [], length, drop, find, unwrap_or, slice_index_or, All, IsTrue}
+use Rattle.std.specs.Prelude.{ℕ, ◌+◌, ◌*◌, ◌/◌, ◌<◌, ◌≡◌, ◌≢◌, List, [], drop, find, unwrap_or, slice_index_or, All, IsTrue}
 use Rattle.dc_spec.specs.Words.{zero_word}
 use Rattle.dc_spec.specs.Pads.{Pair}
 use Rattle.dc_spec.specs.Scripts.{Said, Turn, each}
