@@ -16,6 +16,7 @@ use Rattle.dc_net_rules.proofs.Agreeing.{all_agree}
 use Rattle.dc_twin_rules.proofs.PadSums.{pads_add-at, length-pads_add}
 use Rattle.dc_steering_rules.specs.Steerings.{first_difference, steered_from, IsSteering, second_changes, first_changes, changes_between, has_ends, with_pair, steered_net}
 use Rattle.dc_steering_rules.specs.Counting.{MaySteer, IsKeyListFor, heard_symbols, steered_between, own_pair, OthersSayTheSame, IsSteeredTo}
+use Rattle.dc_steering_rules.proofs.Steerable.{Steerable, steerable}
 use Rattle.dc_steering_rules.proofs.SteeringLemmas.{below_or_past, computed-steers}
 use Rattle.dc_steering_rules.proofs.OneSteering.{steering_is_computed}
 use Rattle.dc_steering_rules.proofs.KeyChanges.{put_pair}
@@ -27,11 +28,11 @@ use Rattle.dc_steering_rules.proofs.Opposite.{opposite, opposite-steers, undone}
 use Rattle.dc_steering_rules.proofs.OwnPair.{found_put, same_put, found_has, ends_are}
 
 -- the same for the ends of the pads
-same_ends : (net : Net) (u v s : ℕ) (k : Pair) → k.u ≡ u → k.v ≡ v → MaySteer net u v s → MaySteer net k.u k.v s
-same_ends net u v s k is_u is_v may = subst (λ (a : ℕ). MaySteer net a k.v s) (sym is_u) (subst (λ (b : ℕ). MaySteer net u b s) (sym is_v) may)
+same_ends : (net : Net) (u v s : ℕ) (k : Pair) → k.u ≡ u → k.v ≡ v → Steerable net u v s → Steerable net k.u k.v s
+same_ends net u v s k is_u is_v may = subst (λ (a : ℕ). Steerable net a k.v s) (sym is_u) (subst (λ (b : ℕ). Steerable net u b s) (sym is_v) may)
 
 -- the stations received differently at the first difference
-differs : (net : Net) (u v s : ℕ) → MaySteer net u v s →
+differs : (net : Net) (u v s : ℕ) → Steerable net u v s →
     slice_index (heard_symbols net u) (first_difference (heard_symbols net u) (heard_symbols net v)) ≢ slice_index (heard_symbols net v) (first_difference (heard_symbols net u) (heard_symbols net v))
 differs net u v s may =
     let in_u = heard_count net u (honest_below net u may.honest_smaller) in
@@ -40,7 +41,7 @@ differs net u v s may =
     differ_at (heard_symbols net u) (heard_symbols net v) (omega arith) (in_u ∙ sym in_v)
 
 -- the computed changes steer
-steering_for : (net : Net) (u v s : ℕ) (given wanted : List (List ℕ)) → MaySteer net u v s →
+steering_for : (net : Net) (u v s : ℕ) (given wanted : List (List ℕ)) → Steerable net u v s →
     (let cu = heard_symbols net u in
     let cv = heard_symbols net v in
     let e = changes_between (s + 1) given wanted in
@@ -56,7 +57,7 @@ abbrev firsts : Net → ℕ → ℕ → ℕ → List (List ℕ) → List (List �
 firsts net u v s given wanted = first_changes (heard_symbols net u) (seconds net u v s given wanted) (16 * net.words)
 
 -- a key list that is steered
-steers_of : (net : Net) (u v s : ℕ) → MaySteer net u v s → (given wanted : List (List ℕ)) (k : Pair) → IsKeyListFor net u v s given k →
+steers_of : (net : Net) (u v s : ℕ) → Steerable net u v s → (given wanted : List (List ℕ)) (k : Pair) → IsKeyListFor net u v s given k →
     Steers net k s (firsts net k.u k.v s given wanted) (seconds net k.u k.v s given wanted) (changes_between (s + 1) given wanted)
 steers_of net u v s may given wanted k is =
     let here = same_ends net u v s k is.smaller is.larger may in
@@ -98,7 +99,7 @@ steered_is_pair net k s x y e st =
     later p = omega arith
 
 -- they give the wanted sums
-pub steered_list : (net : Net) (u v s : ℕ) → MaySteer net u v s → (given wanted : List (List ℕ)) → AreWords wanted → length wanted ≡ net.words - (s + 1) → (k : Pair) → IsKeyListFor net u v s given k →
+pub steered_list : (net : Net) (u v s : ℕ) → Steerable net u v s → (given wanted : List (List ℕ)) → AreWords wanted → length wanted ≡ net.words - (s + 1) → (k : Pair) → IsKeyListFor net u v s given k →
     IsKeyListFor net u v s wanted (steered_between net s k given wanted)
 steered_list net u v s may given wanted are many k is =
     let st = steers_of net u v s may given wanted k is in
@@ -112,7 +113,7 @@ steered_list net u v s may given wanted are many k is =
     }
 
 -- all stations but the larger end say the same words
-pub others_same : (net : Net) (u v s : ℕ) → MaySteer net u v s → (given wanted : List (List ℕ)) (k : Pair) → IsKeyListFor net u v s given k →
+pub others_same : (net : Net) (u v s : ℕ) → Steerable net u v s → (given wanted : List (List ℕ)) (k : Pair) → IsKeyListFor net u v s given k →
     OthersSayTheSame (with_pair net k) (with_pair net (steered_between net s k given wanted)) v
 others_same net u v s may given wanted k is t i within low other =
     let x = firsts net k.u k.v s given wanted in
@@ -165,7 +166,7 @@ pads_are xs all k = elim (below_or_past k (length xs)) [
 ]
 
 -- steering back gives the first pads again
-pub steered_back : (net : Net) (u v s : ℕ) → MaySteer net u v s → (given wanted : List (List ℕ)) → AreWords given → AreWords wanted → length wanted ≡ net.words - (s + 1) → (k : Pair) →
+pub steered_back : (net : Net) (u v s : ℕ) → Steerable net u v s → (given wanted : List (List ℕ)) → AreWords given → AreWords wanted → length wanted ≡ net.words - (s + 1) → (k : Pair) →
     IsKeyListFor net u v s given k → steered_between net s (steered_between net s k given wanted) wanted given ≡ k
 steered_back net u v s may given wanted are_given are_wanted many k is =
     let st = steers_of net u v s may given wanted k is in
@@ -189,14 +190,14 @@ steered_back net u v s may given wanted are_given are_wanted many k is =
     ap₂ (λ (a : List ℕ) (b : List ℕ). record { u = k.u; v = k.v; a = a; b = b }) first second
 
 -- the ends of a net's own pair, and that it is one of the pads
-own_ends : (net : Net) (u v s : ℕ) → MaySteer net u v s → ((own_pair net u v).u ≡ u) × ((own_pair net u v).v ≡ v) × IsPair net.keys.stations net.keys.words (own_pair net u v)
+own_ends : (net : Net) (u v s : ℕ) → Steerable net u v s → ((own_pair net u v).u ≡ u) × ((own_pair net u v).v ≡ v) × IsPair net.keys.stations net.keys.words (own_pair net u v)
 own_ends net u v s may =
     let found = found_has (IsPair net.keys.stations net.keys.words) (has_ends u v) (record { u = u; v = v; a = []; b = [] }) net.keys.pairs may.one_pair may.is_net.keys.are_pairs in
     let ends = ends_are u v (own_pair net u v) found.0 in
     (ends.0, ends.1, found.1)
 
 -- a net with its own pair
-own_net : (net : Net) (u v s : ℕ) → MaySteer net u v s → with_pair net (own_pair net u v) ≡ net
+own_net : (net : Net) (u v s : ℕ) → Steerable net u v s → with_pair net (own_pair net u v) ≡ net
 own_net net u v s may =
     let own = own_pair net u v in
     let ends = own_ends net u v s may in
@@ -204,8 +205,8 @@ own_net net u v s may =
     ∙ sym (found_put (has_ends u v) (λ (q : Pair). q) (record { u = u; v = v; a = []; b = [] }) net.keys.pairs may.one_pair) ∙ same_put (has_ends u v) net.keys.pairs)
 
 -- a net's own pair gives its own sums
-pub own_list : (net : Net) (u v s : ℕ) → MaySteer net u v s → IsKeyListFor net u v s (drop (s + 1) (run_of net).sums) (own_pair net u v)
-own_list net u v s may =
+pub own_listed : (net : Net) (u v s : ℕ) → Steerable net u v s → IsKeyListFor net u v s (drop (s + 1) (run_of net).sums) (own_pair net u v)
+own_listed net u v s may =
     let ends = own_ends net u v s may in
     let all = all_agree net may.is_net.agrees in
     let same = own_net net u v s may in
@@ -218,7 +219,7 @@ own_list net u v s may =
     }
 
 -- a steered net is the net with its own pair steered
-pub steered_is : (net : Net) (u v s : ℕ) → MaySteer net u v s → (wanted : List (List ℕ)) →
+pub steered_is : (net : Net) (u v s : ℕ) → Steerable net u v s → (wanted : List (List ℕ)) →
     steered_net net u v wanted ≡ with_pair net (steered_between net s (own_pair net u v) (drop (s + 1) (run_of net).sums) wanted)
 steered_is net u v s may wanted =
     let own = own_pair net u v in
@@ -238,19 +239,24 @@ steered_is net u v s may wanted =
 pub key_lists_as_many : (net : Net) (u v s : ℕ) → MaySteer net u v s → (w w' : List (List ℕ)) → AreWords w → AreWords w' → length w' ≡ net.words - (s + 1) → (k : Pair) → IsKeyListFor net u v s w k →
     (let k' = steered_between net s k w w' in
     IsKeyListFor net u v s w' k' × (steered_between net s k' w' w ≡ k) × OthersSayTheSame (with_pair net k) (with_pair net k') v)
-key_lists_as_many net u v s may w w' are are' many k is = (
-  steered_list net u v s may w w' are' many k is,
-  steered_back net u v s may w w' are are' many k is,
-  others_same net u v s may w w' k is,
-)
+key_lists_as_many net u v s may w w' are are' many k is =
+    let premises = steerable net u v s may in (
+      steered_list net u v s premises w w' are' many k is,
+      steered_back net u v s premises w w' are are' many k is,
+      others_same net u v s premises w w' k is,
+    )
+
+pub own_list : (net : Net) (u v s : ℕ) → MaySteer net u v s → IsKeyListFor net u v s (drop (s + 1) (run_of net).sums) (own_pair net u v)
+own_list net u v s may = own_listed net u v s (steerable net u v s may)
 
 -- the steered net
 pub steered_net_is_steered : (net : Net) (u v s : ℕ) → MaySteer net u v s → (wanted : List (List ℕ)) → AreWords wanted → length wanted ≡ net.words - (s + 1) →
     IsSteeredTo net v s wanted (steered_net net u v wanted)
-steered_net_is_steered net u v s may wanted are many =
+steered_net_is_steered net u v s premises wanted are many =
+    let may = steerable net u v s premises in
     let given = drop (s + 1) (run_of net).sums in
     let own = own_pair net u v in
-    let own_is = own_list net u v s may in
+    let own_is = own_listed net u v s may in
     let listed = steered_list net u v s may given wanted are many own own_is in
     let others = others_same net u v s may given wanted own own_is in
     let k = steered_between net s own given wanted in

@@ -8,4 +8,5 @@ pub mod SteeredRounds
 pub mod Opposite
 pub mod LaterSums
 pub mod OwnPair
+pub mod Steerable
 pub mod EquallyMany

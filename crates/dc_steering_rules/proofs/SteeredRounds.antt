@@ -20,7 +20,8 @@ use Rattle.dc_spec.proofs.SumLemmas.{sum_by-map, sum_by-same, sum_by-plus, sum_b
 use Rattle.dc_net_rules.proofs.RunLemmas.{honest_below}
 use Rattle.dc_net_rules.proofs.RoundLemmas.{length-rounds_of, rounds_none, length-history, length-next_words}
 use Rattle.dc_steering_rules.specs.Steerings.{first_difference, steered_from, IsSteering, with_pair}
-use Rattle.dc_steering_rules.specs.Counting.{MaySteer, heard_symbols}
+use Rattle.dc_steering_rules.specs.Counting.{heard_symbols}
+use Rattle.dc_steering_rules.proofs.Steerable.{Steerable}
 use Rattle.dc_steering_rules.proofs.SteeringLemmas.{below_or_past}
 use Rattle.dc_steering_rules.proofs.KeyChanges.{added_symbol, put_pair, key_part-changed}
 use Rattle.dc_steering_rules.proofs.SteeredKeys.{smaller-gain, larger-loss}
@@ -29,7 +30,7 @@ use Rattle.dc_steering_rules.proofs.SameRuns.{with_pairs, same_next, same_rounds
 
 -- pads k of a pair of a net that keep its words up to round s, and a steering by e from there on
 pub record Steers (net : Net) (k : Pair) (s : ℕ) (x y e : List ℕ) : Type 0 where
-  pub may : MaySteer net k.u k.v s
+  pub may : Steerable net k.u k.v s
   pub is_pair : IsPair net.stations net.words k
   pub early : published (rounds_of (with_pair net k) (s + 1)) ≡ published (rounds_of net (s + 1))
   pub steering : IsSteering (heard_symbols net k.u) (heard_symbols net k.v) e (16 * net.words) x y
@@ -188,7 +189,7 @@ early_rounds net k s x y e st (suc t) within some =
     (same_next net (pairs_at net k (changed_pair k x y)) (pairs_at net k k) t before (early_words net k s x y e st t (omega arith) (omega arith) before))
 
 -- the round of the first difference is one of the session
-pub some_rounds : (net : Net) (u v s : ℕ) → MaySteer net u v s → s < net.words
+pub some_rounds : (net : Net) (u v s : ℕ) → Steerable net u v s → s < net.words
 some_rounds net u v s may = let d = may.differ in let r = may.in_round in below (first_difference (heard_symbols net u) (heard_symbols net v)) s net.words d r
   where
     below : (p s t : ℕ) → p < 16 * t → p / 16 ≡ s → s < t

@@ -1,14 +1,15 @@
 -- Equally many key lists: where two honest neighbours first received different words in a round, the
 -- pads of their pair that give one list of later sums, and those that give another.
-use Rattle.std.specs.Prelude.{ℕ, ◌+◌, ◌*◌, ◌/◌, ◌<◌, ◌≡◌, ◌≢◌, List, [], length, drop, filter, find, unwrap_or, slice_index_or, All}
+use Rattle.std.specs.Prelude.{ℕ, ◌+◌, ◌*◌, ◌/◌, ◌<◌, ◌≡◌, ◌≢◌, List, [], drop, find, unwrap_or, slice_index_or, All, IsTrue}
 use Rattle.dc_spec.specs.Words.{zero_word}
 use Rattle.dc_spec.specs.Pads.{Pair}
 use Rattle.dc_spec.specs.Scripts.{Said, Turn, each}
 use Rattle.dc_spec.specs.Net.{Net}
 use Rattle.dc_formats.specs.KeyFile.{IsPair}
 use Rattle.dc_key_rules.specs.PairKeys.{symbols}
+use Rattle.dc_graph_rules.specs.Graphs.{key_graph, are_neighbours}
 use Rattle.dc_net_rules.specs.Nets.{IsNet}
-use Rattle.dc_net_rules.specs.Runs.{all_rounds, rounds_of, history, published, run_of, script_turn, IsHonest}
+use Rattle.dc_net_rules.specs.Runs.{all_rounds, rounds_of, history, published, run_of, script_turn}
 use Rattle.dc_steering_rules.specs.Steerings.{first_difference, steered, changes_between, has_ends, with_pair}
 
 -- no word of a list has a term
@@ -26,14 +27,12 @@ pub record IsFixedTurn (turn : Turn) : Type 0 where
 abbrev pub heard_symbols : Net → ℕ → List ℕ
 heard_symbols net i = symbols (history (all_rounds net) i)
 
--- Stations u and v of a checked net are honest and share one pair of pads, the first symbol that they
--- received differently is of round s, and every later round is fixed by the script.
+-- Stations u < v of a checked net are honest neighbours, the first symbol that they received
+-- differently is of round s, and every later round is fixed by the script.
 pub record MaySteer (net : Net) (u v s : ℕ) : Type 0 where
   pub is_net : IsNet net
   pub ends : u < v
-  pub honest_smaller : IsHonest net u
-  pub honest_larger : IsHonest net v
-  pub one_pair : length (filter (has_ends u v) net.keys.pairs) ≡ 1
+  pub neighbours : IsTrue (are_neighbours (key_graph net) u v)
   pub differ : first_difference (heard_symbols net u) (heard_symbols net v) < 16 * net.words
   pub in_round : first_difference (heard_symbols net u) (heard_symbols net v) / 16 ≡ s
   pub fixed : (t : ℕ) → s < t → t < net.words → IsFixedTurn (script_turn net t)
