@@ -1,2 +1,3 @@
 pub mod PlainSums
+pub mod Tallies
 pub mod Laws
