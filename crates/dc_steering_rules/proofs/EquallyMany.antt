@@ -25,6 +25,7 @@ use Rattle.dc_steering_rules.proofs.SameRuns.{with_pairs}
 use Rattle.dc_steering_rules.proofs.SteeredRounds.{Steers, pairs_at, word_gain, early_rounds, some_rounds, gained_word, word_is_word}
 use Rattle.dc_steering_rules.proofs.LaterSums.{change-later, change-before, changes_are, later_count, sums_wanted, said_at}
 use Rattle.dc_steering_rules.proofs.Opposite.{opposite, opposite-steers, undone}
+use Rattle.dc_steering_rules.proofs.SteeredKeyFile.{put-keys}
 use Rattle.dc_steering_rules.proofs.OwnPair.{found_put, same_put, found_has, ends_are}
 
 -- the same for the ends of the pads
@@ -261,4 +262,4 @@ steered_net_is_steered net u v s premises wanted are many =
     let others = others_same net u v s may given wanted own own_is in
     let k = steered_between net s own given wanted in
     let from_own : OthersSayTheSame net (with_pair net k) v = subst (λ (n : Net). OthersSayTheSame n (with_pair net k) v) (own_net net u v s may) others in
-    subst (λ (n : Net). IsSteeredTo net v s wanted n) (sym (steered_is net u v s may wanted)) (record { early = listed.early; later = listed.later; others_same = from_own })
+    subst (λ (n : Net). IsSteeredTo net v s wanted n) (sym (steered_is net u v s may wanted)) (record { are_keys = put-keys net may.is_net k listed.is_pair; early = listed.early; later = listed.later; others_same = from_own })
