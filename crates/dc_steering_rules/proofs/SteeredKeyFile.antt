@@ -49,7 +49,8 @@ pub put-keys : (net : Net) → IsNet net → (k : Pair) → IsPair net.stations 
 put-keys net is k pair =
     let agree = all_agree net is.agrees in
     let keys = is.keys in
-    let own : IsPair net.keys.stations net.keys.words k = subst (λ (n : ℕ). IsPair n net.keys.words k) (sym agree.key_stations) (subst (λ (t : ℕ). IsPair net.stations t k) (sym agree.words) pair) in
+    let own : IsPair net.keys.stations net.keys.words k = subst (λ (n : ℕ). IsPair n net.keys.words k) (sym agree.key_stations) (subst (λ (t : ℕ). IsPair net.stations t k)
+    (sym agree.words) pair) in
     record {
       some_stations = keys.some_stations;
       most_stations = keys.most_stations;
