@@ -9,7 +9,7 @@ use Rattle.dc_spec.specs.Symbols.{AreSymbols}
 use Rattle.dc_spec.specs.Pads.{Pair}
 use Rattle.dc_spec.specs.Net.{Net}
 use Rattle.dc_formats.specs.KeyFile.{IsPair}
-use Rattle.dc_key_rules.specs.PairKeys.{pads_add, changed_pair}
+use Rattle.dc_key_rules.specs.PairKeys.{symbols, pads_add, changed_pair}
 use Rattle.dc_net_rules.specs.Runs.{word_of_station, published, next_words, rounds_of, run_of}
 use Rattle.dc_net_rules.proofs.RunLemmas.{honest_below}
 use Rattle.dc_net_rules.proofs.Agreeing.{all_agree}
@@ -21,7 +21,7 @@ use Rattle.dc_steering_rules.proofs.SteeringLemmas.{below_or_past, computed-stee
 use Rattle.dc_steering_rules.proofs.OneSteering.{steering_is_computed}
 use Rattle.dc_steering_rules.proofs.KeyChanges.{put_pair}
 use Rattle.dc_steering_rules.proofs.ReceivedWords.{heard_count, heard_are, differ_at}
-use Rattle.dc_steering_rules.proofs.SameRuns.{with_pairs}
+use Rattle.dc_steering_rules.proofs.SameRuns.{with_pairs, same_rounds, same_histories}
 use Rattle.dc_steering_rules.proofs.SteeredRounds.{Steers, pairs_at, word_gain, early_rounds, some_rounds, gained_word, word_is_word}
 use Rattle.dc_steering_rules.proofs.LaterSums.{change-later, change-before, changes_are, later_count, sums_wanted, said_at}
 use Rattle.dc_steering_rules.proofs.Opposite.{opposite, opposite-steers, undone}
@@ -269,3 +269,11 @@ steered_net_is_steered net u v s premises wanted are many =
     let from_own : OthersSayTheSame net (with_pair net k) v = subst (λ (n : Net). OthersSayTheSame n (with_pair net k) v) (own_net net u v s may) others in
     subst (λ (n : Net). IsSteeredTo net v s wanted n) (sym (steered_is net u v s may wanted))
     (record { are_keys = put-keys net may.is_net k listed.is_pair; early = listed.early; later = listed.later; others_same = from_own })
+
+-- with each key list the stations receive the same
+pub heard_alike : (net : Net) (u v s : ℕ) → MaySteer net u v s → (w : List (List ℕ)) (k : Pair) → IsKeyListFor net u v s w k → (i : ℕ) → i < net.stations →
+    heard_symbols (with_pair net k) i ≡ heard_symbols net i
+heard_alike net u v s may w k is i low =
+    let ps = pairs_at net k k in
+    ap (λ (h : List (List ℕ)). symbols h)
+    (same_histories net ps net.keys.pairs s (same_rounds net ps net.keys.pairs (s + 1) is.early) may.fixed net.words i (omega arith) low)
