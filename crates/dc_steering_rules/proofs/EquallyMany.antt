@@ -9,7 +9,7 @@ use Rattle.dc_spec.specs.Symbols.{AreSymbols}
 use Rattle.dc_spec.specs.Pads.{Pair}
 use Rattle.dc_spec.specs.Net.{Net}
 use Rattle.dc_formats.specs.KeyFile.{IsPair}
-use Rattle.dc_key_rules.specs.PairKeys.{pads_add, changed_pair}
+use Rattle.dc_key_rules.specs.PairKeys.{symbols, pads_add, changed_pair}
 use Rattle.dc_net_rules.specs.Runs.{word_of_station, published, next_words, rounds_of, run_of}
 use Rattle.dc_net_rules.proofs.RunLemmas.{honest_below}
 use Rattle.dc_net_rules.proofs.Agreeing.{all_agree}
@@ -21,10 +21,11 @@ use Rattle.dc_steering_rules.proofs.SteeringLemmas.{below_or_past, computed-stee
 use Rattle.dc_steering_rules.proofs.OneSteering.{steering_is_computed}
 use Rattle.dc_steering_rules.proofs.KeyChanges.{put_pair}
 use Rattle.dc_steering_rules.proofs.ReceivedWords.{heard_count, heard_are, differ_at}
-use Rattle.dc_steering_rules.proofs.SameRuns.{with_pairs}
+use Rattle.dc_steering_rules.proofs.SameRuns.{with_pairs, same_rounds, same_histories}
 use Rattle.dc_steering_rules.proofs.SteeredRounds.{Steers, pairs_at, word_gain, early_rounds, some_rounds, gained_word, word_is_word}
 use Rattle.dc_steering_rules.proofs.LaterSums.{change-later, change-before, changes_are, later_count, sums_wanted, said_at}
 use Rattle.dc_steering_rules.proofs.Opposite.{opposite, opposite-steers, undone}
+use Rattle.dc_steering_rules.proofs.SteeredKeyFile.{put-keys}
 use Rattle.dc_steering_rules.proofs.OwnPair.{found_put, same_put, found_has, ends_are}
 
 -- the same for the ends of the pads
@@ -33,7 +34,8 @@ same_ends net u v s k is_u is_v may = subst (λ (a : ℕ). Steerable net a k.v s
 
 -- the stations received differently at the first difference
 differs : (net : Net) (u v s : ℕ) → Steerable net u v s →
-    slice_index (heard_symbols net u) (first_difference (heard_symbols net u) (heard_symbols net v)) ≢ slice_index (heard_symbols net v) (first_difference (heard_symbols net u) (heard_symbols net v))
+    slice_index (heard_symbols net u) (first_difference (heard_symbols net u) (heard_symbols net v)) ≢ slice_index (heard_symbols net v) (first_difference (heard_symbols net u)
+    (heard_symbols net v))
 differs net u v s may =
     let in_u = heard_count net u (honest_below net u may.honest_smaller) in
     let in_v = heard_count net v (honest_below net v may.honest_larger) in
@@ -99,7 +101,8 @@ steered_is_pair net k s x y e st =
     later p = omega arith
 
 -- they give the wanted sums
-pub steered_list : (net : Net) (u v s : ℕ) → Steerable net u v s → (given wanted : List (List ℕ)) → AreWords wanted → length wanted ≡ net.words - (s + 1) → (k : Pair) → IsKeyListFor net u v s given k →
+pub steered_list : (net : Net) (u v s : ℕ) → Steerable net u v s → (given wanted : List (List ℕ)) → AreWords wanted → length wanted ≡ net.words - (s + 1) → (k : Pair) →
+    IsKeyListFor net u v s given k →
     IsKeyListFor net u v s wanted (steered_between net s k given wanted)
 steered_list net u v s may given wanted are many k is =
     let st = steers_of net u v s may given wanted k is in
@@ -127,14 +130,16 @@ others_same net u v s may given wanted k is t i within low other =
     let elsewhere : (k.v == i) ≡ false = ne_eqb k.v i (λ same. other (sym same ∙ is.larger)) in
     said_at b t i within low ∙ ext_get_or 0 (word_of_station (next_words b (rounds_of b t)) i) (word_of_station (next_words a (rounds_of a t)) i) (in_b.sixteen ∙ sym in_a.sixteen) (λ l few.
     gained_word net k s x y e st t i l within low (let size = in_b.sixteen in omega arith)
-    ∙ stays (slice_index (word_of_station (next_words a (rounds_of a t)) i) l) (word_gain k e i (16 * t + l)) (in_a.symbols l) (ap (λ (c : Bool). cond c (slice_index e (16 * t + l)) 0) elsewhere))
+    ∙ stays (slice_index (word_of_station (next_words a (rounds_of a t)) i) l) (word_gain k e i (16 * t + l)) (in_a.symbols l) (ap (λ (c : Bool). cond c (slice_index e
+    (16 * t + l)) 0) elsewhere))
     ∙ sym (said_at a t i within low)
   where
     stays : (w c : ℕ) → w < 65537 → c ≡ 0 → (w + c) % 65537 ≡ w
     stays w c low none = omega arith
 
 -- changes from one list to another and back add up to nothing
-back_and_forth : (net : Net) (s p : ℕ) (given wanted : List (List ℕ)) → AreWords given → AreWords wanted → length given ≡ net.words - (s + 1) → length wanted ≡ net.words - (s + 1) → p / 16 ≡ s → (n : ℕ) →
+back_and_forth : (net : Net) (s p : ℕ) (given wanted : List (List ℕ)) → AreWords given → AreWords wanted → length given ≡ net.words - (s + 1) → length wanted ≡ net.words - (s + 1) →
+    p / 16 ≡ s → (n : ℕ) →
     steered_from p ≤ n → n < 16 * net.words → (slice_index (changes_between (s + 1) given wanted) n + slice_index (changes_between (s + 1) wanted given) n) % 65537 ≡ 0
 back_and_forth net s p given wanted are_given are_wanted many_given many_wanted round n from within =
     let t : ℕ = n / 16 in
@@ -236,7 +241,8 @@ steered_is net u v s may wanted =
     ∙ ap₂ (λ (a : ℕ) (b : ℕ). map (put_pair a b (changed_pair own (x a b s) (y a b s))) net.keys.pairs) (sym ends.0) (sym ends.1))
 
 -- all of it together
-pub key_lists_as_many : (net : Net) (u v s : ℕ) → MaySteer net u v s → (w w' : List (List ℕ)) → AreWords w → AreWords w' → length w' ≡ net.words - (s + 1) → (k : Pair) → IsKeyListFor net u v s w k →
+pub key_lists_as_many : (net : Net) (u v s : ℕ) → MaySteer net u v s → (w w' : List (List ℕ)) → AreWords w → AreWords w' → length w' ≡ net.words - (s + 1) → (k : Pair) →
+    IsKeyListFor net u v s w k →
     (let k' = steered_between net s k w w' in
     IsKeyListFor net u v s w' k' × (steered_between net s k' w' w ≡ k) × OthersSayTheSame (with_pair net k) (with_pair net k') v)
 key_lists_as_many net u v s may w w' are are' many k is =
@@ -261,4 +267,13 @@ steered_net_is_steered net u v s premises wanted are many =
     let others = others_same net u v s may given wanted own own_is in
     let k = steered_between net s own given wanted in
     let from_own : OthersSayTheSame net (with_pair net k) v = subst (λ (n : Net). OthersSayTheSame n (with_pair net k) v) (own_net net u v s may) others in
-    subst (λ (n : Net). IsSteeredTo net v s wanted n) (sym (steered_is net u v s may wanted)) (record { early = listed.early; later = listed.later; others_same = from_own })
+    subst (λ (n : Net). IsSteeredTo net v s wanted n) (sym (steered_is net u v s may wanted))
+    (record { are_keys = put-keys net may.is_net k listed.is_pair; early = listed.early; later = listed.later; others_same = from_own })
+
+-- with each key list the stations receive the same
+pub heard_alike : (net : Net) (u v s : ℕ) → MaySteer net u v s → (w : List (List ℕ)) (k : Pair) → IsKeyListFor net u v s w k → (i : ℕ) → i < net.stations →
+    heard_symbols (with_pair net k) i ≡ heard_symbols net i
+heard_alike net u v s may w k is i low =
+    let ps = pairs_at net k k in
+    ap (λ (h : List (List ℕ)). symbols h)
+    (same_histories net ps net.keys.pairs s (same_rounds net ps net.keys.pairs (s + 1) is.early) may.fixed net.words i (omega arith) low)

@@ -20,7 +20,8 @@ pub key_symbol-changed : (a b x y c : List ℕ) (before n : ℕ) → n < length 
     key_symbol (pads_add a x) (pads_add b y) c before n % 65537 ≡ (key_symbol a b c before n + added_symbol x y c before n) % 65537
 key_symbol-changed a b x y c before n low first same second =
     let sum = λ (pads : List ℕ). sum_by (λ k. slice_index pads (n - k) * slice_index c k) (range_with_len 0 before) in
-    let product : (k : ℕ) → k < before → slice_index (pads_add b y) (n - k) * slice_index c k % 65537 ≡ (slice_index b (n - k) * slice_index c k + slice_index y (n - k) * slice_index c k) % 65537 = λ k less.
+    let product : (k : ℕ) → k < before → slice_index (pads_add b y) (n - k) * slice_index c k % 65537
+    ≡ (slice_index b (n - k) * slice_index c k + slice_index y (n - k) * slice_index c k) % 65537 = λ k less.
     ap (λ (z : ℕ). z * slice_index c k % 65537) (pads_add-at b y (n - k) 0 (omega arith) second)
     ∙ times_sum (slice_index b (n - k)) (slice_index y (n - k)) (slice_index c k) in
     let sums : sum (pads_add b y) % 65537 ≡ (sum b + sum y) % 65537 = sum_by-mod_plus _ _ _ (range_with_len 0 before) (all_range _ before product) in

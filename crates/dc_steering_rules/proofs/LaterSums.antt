@@ -27,14 +27,16 @@ round_at net t (suc m) d low = elim (eq-or-lt_of_le low) [
   | inl last ↦ (let e : t ≡ m = omega arith in
       subst (λ (z : ℕ). get_or (rounds_of net (suc m)) z d ≡ next_round net (rounds_of net z)) (sym e)
       (ap (λ (z : ℕ). get_or (rounds_of net (suc m)) z d) (sym (length-rounds_of net m)) ∙ get_or-append_seam (rounds_of net m) (next_round net (rounds_of net m)) [] d))
-  | inr less ↦ get_or_append_left (rounds_of net m) (next_round net (rounds_of net m) ∷ []) d t (let size = length-rounds_of net m in omega arith) ∙ round_at net t m d (le_of_suc-le-suc less)
+  | inr less ↦ get_or_append_left (rounds_of net m) (next_round net (rounds_of net m) ∷ []) d t (let size = length-rounds_of net m in omega arith)
+      ∙ round_at net t m d (le_of_suc-le-suc less)
 ]
 
 -- the sum of round t
 pub sum_at : (net : Net) (t : ℕ) → t < net.words → get_or (run_of net).sums t [] ≡ word_sum (next_words net (rounds_of net t))
 sum_at net t low =
     let size = length-rounds_of net net.words in
-    get_or-map (λ (r : Round). r.sum) (all_rounds net) t (next_round net (rounds_of net t)) [] (omega arith) ∙ ap (λ (r : Round). r.sum) (round_at net t net.words (next_round net (rounds_of net t)) low)
+    get_or-map (λ (r : Round). r.sum) (all_rounds net) t (next_round net (rounds_of net t)) [] (omega arith)
+    ∙ ap (λ (r : Round). r.sum) (round_at net t net.words (next_round net (rounds_of net t)) low)
 
 -- the word of a station in round t
 words_at : (net : Net) (t i m : ℕ) → t < m → i < net.stations → get_or (published (rounds_of net m)) (t * net.stations + i) zero_word ≡ word_of_station (next_words net (rounds_of net t)) i
@@ -48,7 +50,8 @@ words_at net t i (suc m) low station =
           subst (λ (z : ℕ). get_or (before ++ next_words net (rounds_of net m)) (z * net.stations + i) zero_word ≡ word_of_station (next_words net (rounds_of net z)) i) (sym e)
           (ap (λ (z : ℕ). get_or (before ++ next_words net (rounds_of net m)) (z + i) zero_word) (sym size) ∙ get_or-append-add before (next_words net (rounds_of net m)) i zero_word))
       | inr less ↦ (let earlier : t < m = le_of_suc-le-suc less in
-          get_or_append_left before (next_words net (rounds_of net m)) zero_word (t * net.stations + i) (inside t m i net.stations (length before) size earlier station) ∙ words_at net t i m earlier station)
+          get_or_append_left before (next_words net (rounds_of net m)) zero_word (t * net.stations + i) (inside t m i net.stations (length before) size earlier station)
+          ∙ words_at net t i m earlier station)
     ]
   where
     inside : (t m i n size : ℕ) → size ≡ m * n → t < m → i < n → t * n + i < size
@@ -68,7 +71,8 @@ said_at net t i low station = words_at net t i net.words low station
 abbrev differences : List (List ℕ) → List (List ℕ) → List (List ℕ)
 differences wanted given = map (λ ws. word_sub ws.0 ws.1) (zip wanted given)
 
-difference_of : (wanted given : List (List ℕ)) (j : ℕ) → length given ≡ length wanted → j < length wanted → get_or (differences wanted given) j [] ≡ word_sub (get_or wanted j []) (get_or given j [])
+difference_of : (wanted given : List (List ℕ)) (j : ℕ) → length given ≡ length wanted → j < length wanted → get_or (differences wanted given) j []
+    ≡ word_sub (get_or wanted j []) (get_or given j [])
 difference_of [] given j same low = absurd (omega arith)
 difference_of (x ∷ xs) [] j same low = absurd (omega arith)
 difference_of (x ∷ xs) (y ∷ ys) zero same low = refl

@@ -10,3 +10,4 @@ pub mod LaterSums
 pub mod OwnPair
 pub mod Steerable
 pub mod EquallyMany
+pub mod SteeredKeyFile

@@ -85,14 +85,17 @@ opposite-steers cu cv e e' count x y s low sums =
       first = record { many = length-opposite x ∙ s.first.many; are_symbols = opposite-symbols x };
       second = record { many = length-opposite y ∙ s.second.many; are_symbols = opposite-symbols y };
       kept = λ n within. kept_too (slice_index x n) (slice_index (opposite x) n)
-          (sum_by (λ k. slice_index y (n - k) * slice_index cu k) (range_with_len 0 (16 * (n / 16)))) (sum_by (λ k. slice_index (opposite y) (n - k) * slice_index cu k) (range_with_len 0 (16 * (n / 16))))
-          (opposite-at x x_are n) (opposite_sums (λ k. slice_index y (n - k)) (λ k. slice_index (opposite y) (n - k)) (λ k. slice_index cu k) (range_with_len 0 (16 * (n / 16))) (λ k. opposite-at y y_are (n - k)))
+          (sum_by (λ k. slice_index y (n - k) * slice_index cu k) (range_with_len 0 (16 * (n / 16)))) (sum_by (λ k. slice_index (opposite y) (n - k) * slice_index cu k)
+          (range_with_len 0 (16 * (n / 16))))
+          (opposite-at x x_are n) (opposite_sums (λ k. slice_index y (n - k)) (λ k. slice_index (opposite y) (n - k)) (λ k. slice_index cu k) (range_with_len 0 (16 * (n / 16)))
+          (λ k. opposite-at y y_are (n - k)))
           (s.kept n within);
       early = λ j before. none_opposite y y_are j (s.early j before);
       late = λ j past. none_opposite y y_are j (s.late j past);
       wanted = λ n from within. wanted_too (sum_by (λ k. slice_index y (n - k) * difference_at cu cv k) (range_with_len 0 (16 * (n / 16))))
           (sum_by (λ k. slice_index (opposite y) (n - k) * difference_at cu cv k) (range_with_len 0 (16 * (n / 16)))) (slice_index e n) (slice_index e' n)
-          (opposite_sums (λ k. slice_index y (n - k)) (λ k. slice_index (opposite y) (n - k)) (λ k. difference_at cu cv k) (range_with_len 0 (16 * (n / 16))) (λ k. opposite-at y y_are (n - k)))
+          (opposite_sums (λ k. slice_index y (n - k)) (λ k. slice_index (opposite y) (n - k)) (λ k. difference_at cu cv k) (range_with_len 0 (16 * (n / 16))) (λ k. opposite-at y y_are
+          (n - k)))
           (s.wanted n from within) (sums n from within) (low n from within);
     }
   where

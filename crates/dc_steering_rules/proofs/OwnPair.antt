@@ -17,7 +17,8 @@ none_put {A} p f (x ∷ xs) none =
     ]) none
 
 -- where one passes, the one that is found is put in
-pub found_put : {A : Type 0} (p : A → Bool) (f : A → A) (d : A) (xs : List A) → length (filter p xs) ≡ 1 → map (λ x. if p x then f x else x) xs ≡ map (λ x. if p x then f (unwrap_or (find p xs) d) else x) xs
+pub found_put : {A : Type 0} (p : A → Bool) (f : A → A) (d : A) (xs : List A) → length (filter p xs) ≡ 1 → map (λ x. if p x then f x else x) xs
+    ≡ map (λ x. if p x then f (unwrap_or (find p xs) d) else x) xs
 found_put p f d [] one = absurd (omega arith)
 found_put {A} p f d (x ∷ xs) one =
     (elim (p x) as (λ b. length (cond b (x ∷ filter p xs) (filter p xs)) ≡ 1 → ((if b then f x else x) ∷ map (λ y. if p y then f y else y) xs)
@@ -39,7 +40,8 @@ same_put {A} p (x ∷ xs) = ap₂ (λ (y : A) (ys : List A). y ∷ ys) (either (
 pub found_has : {A : Type 0} (P : A → Type 0) (p : A → Bool) (d : A) (xs : List A) → length (filter p xs) ≡ 1 → All P xs → (p (unwrap_or (find p xs) d) ≡ true) × P (unwrap_or (find p xs) d)
 found_has P p d [] one all = absurd (omega arith)
 found_has P p d (x ∷ xs) one all =
-    (elim (p x) as (λ b. p x ≡ b → length (cond b (x ∷ filter p xs) (filter p xs)) ≡ 1 → (p (unwrap_or (cond b (Some x) (find p xs)) d) ≡ true) × P (unwrap_or (cond b (Some x) (find p xs)) d)) [
+    (elim (p x) as (λ b. p x ≡ b → length (cond b (x ∷ filter p xs) (filter p xs)) ≡ 1 → (p (unwrap_or (cond b (Some x) (find p xs)) d)
+    ≡ true) × P (unwrap_or (cond b (Some x) (find p xs)) d)) [
       | true ↦ λ passes h. (passes, All-head P x xs all)
       | false ↦ λ fails h. found_has P p d xs h (All-tail P x xs all)
     ]) refl one

@@ -29,10 +29,11 @@ remainders f = IsWord-word_of (λ l. f l % 65537) (λ l few. below (f l))
 -- what a list of rules gives is a word
 pub rule_is_word : (listed : List Said) (ws : List (List ℕ)) (n i : ℕ) → IsWord (word_by_rule listed ws n i)
 rule_is_word [] ws n i = remainders (λ l. 0)
-rule_is_word (said ∷ rest) ws n i = elim (said.station == i) as (λ b. IsWord (option_map_or (λ (s : Said). rule_word s ws n) (cond b (Some said) (find (λ s. s.station == i) rest)) zero_word)) [
-  | true ↦ remainders _
-  | false ↦ rule_is_word rest ws n i
-]
+rule_is_word (said ∷ rest) ws n i = elim (said.station == i) as (λ b. IsWord (option_map_or (λ (s : Said). rule_word s ws n) (cond b (Some said) (find
+    (λ s. s.station == i) rest)) zero_word)) [
+      | true ↦ remainders _
+      | false ↦ rule_is_word rest ws n i
+    ]
 
 -- and so is what a station receives
 heard_is_word : (net : Net) (d : Delivery) (ws : List (List ℕ)) (sum : List ℕ) (i : ℕ) → IsWord sum → IsWord (heard net d ws sum i)
@@ -55,7 +56,8 @@ symbols_are [] are k = let none : slice_index (symbols []) k ≡ 0 = get_or_past
 symbols_are (w ∷ ws) are k = elim (below_or_past k (length w)) [
   | inl here ↦ rw (get_or_append_left w (symbols ws) 0 k here) ((All-head IsWord w ws are).symbols k)
   | inr later ↦ (let place : k ≡ length w + (k - length w) = omega arith in
-      let at : slice_index (w ++ symbols ws) k ≡ slice_index (symbols ws) (k - length w) = ap (λ (j : ℕ). slice_index (w ++ symbols ws) j) place ∙ get_or-append-add w (symbols ws) (k - length w) 0 in
+      let at : slice_index (w ++ symbols ws) k ≡ slice_index (symbols ws) (k - length w) = ap (λ (j : ℕ). slice_index (w ++ symbols ws) j) place
+      ∙ get_or-append-add w (symbols ws) (k - length w) 0 in
       subst (λ (z : ℕ). z < 65537) (sym at) (symbols_are ws (All-tail IsWord w ws are) (k - length w)))
 ]
 

@@ -99,7 +99,8 @@ later_histories : (net : Net) (ps qs : List Pair) (s : ℕ) → rounds_of (with_
     ((t : ℕ) → s < t → t < net.words → IsFixedTurn (script_turn net t)) → (d t i : ℕ) → t ≡ s + 1 + d → t ≤ net.words → i < net.stations →
     history (rounds_of (with_pairs net ps) t) i ≡ history (rounds_of (with_pairs net qs) t) i
 later_histories net ps qs s same fixed zero t i is within low =
-    let e : t ≡ s + 1 = omega arith in subst (λ (m : ℕ). history (rounds_of (with_pairs net ps) m) i ≡ history (rounds_of (with_pairs net qs) m) i) (sym e) (ap (λ (rs : List Round). history rs i) same)
+    let e : t ≡ s + 1 = omega arith in subst (λ (m : ℕ). history (rounds_of (with_pairs net ps) m) i
+    ≡ history (rounds_of (with_pairs net qs) m) i) (sym e) (ap (λ (rs : List Round). history rs i) same)
 later_histories net ps qs s same fixed (suc d) t i is within low =
     let m = s + 1 + d in
     let e : t ≡ s + 1 + d + 1 = omega arith in

@@ -36,7 +36,8 @@ gained-wanted cu cv e count x y n good s none within = elim (below_or_past n (st
 -- what is added to a key, over the symbols that an end received
 added-by : (c d x y : List ℕ) (t n : ℕ) → ((k : ℕ) → k < 16 * t → slice_index d k ≡ slice_index c k) → added_symbol x y d (16 * t) n ≡ slice_index x n
     + sum_by (λ k. slice_index y (n - k) * slice_index c k) (range_with_len 0 (16 * t))
-added-by c d x y t n same = ap (λ (z : ℕ). slice_index x n + z) (sum_by-same (λ k. slice_index y (n - k) * slice_index d k) (λ k. slice_index y (n - k) * slice_index c k) (range_with_len 0 (16 * t))
+added-by c d x y t n same = ap (λ (z : ℕ). slice_index x n + z) (sum_by-same (λ k. slice_index y (n - k) * slice_index d k) (λ k. slice_index y (n - k) * slice_index c k)
+    (range_with_len 0 (16 * t))
     (λ k there. ap (λ (z : ℕ). slice_index y (n - k) * z) (same k (let less : k < 0 + 16 * t = below_range 0 (16 * t) k there in omega arith))))
 
 -- the round of a symbol
@@ -44,7 +45,8 @@ in_round : (t l : ℕ) → l < 16 → (16 * t + l) / 16 ≡ t
 in_round t l few = omega arith
 
 -- the keys of the smaller end gain nothing
-pub smaller-gain : (cu cv e : List ℕ) (count : ℕ) (x y d : List ℕ) (t l : ℕ) → IsSteering cu cv e count x y → l < 16 → 16 * t + l < count → ((k : ℕ) → k < 16 * t → slice_index d k ≡ slice_index cu k) →
+pub smaller-gain : (cu cv e : List ℕ) (count : ℕ) (x y d : List ℕ) (t l : ℕ) → IsSteering cu cv e count x y → l < 16 → 16 * t + l < count → ((k : ℕ) → k < 16 * t → slice_index d k
+    ≡ slice_index cu k) →
     added_symbol x y d (16 * t) (16 * t + l) % 65537 ≡ 0
 smaller-gain cu cv e count x y d t l s few within same =
     let n = 16 * t + l in
@@ -66,10 +68,12 @@ larger-loss cu cv e count x y d t l good_u good_v s none few within same =
     let to_v = sum_by (λ k. slice_index y (n - k) * slice_index cv k) (numbers t) in
     let apart = sum_by (λ k. slice_index y (n - k) * difference_at cu cv k) (numbers t) in
     let round = in_round t l few in
-    let kept : (slice_index x n + to_u % 65537) % 65537 ≡ 0 = ap (λ (r : ℕ). (slice_index x n + sum_by (λ k. slice_index y (n - k) * slice_index cu k) (numbers r) % 65537) % 65537) (sym round) ∙ s.kept n within in
+    let kept : (slice_index x n + to_u % 65537) % 65537
+    ≡ 0 = ap (λ (r : ℕ). (slice_index x n + sum_by (λ k. slice_index y (n - k) * slice_index cu k) (numbers r) % 65537) % 65537) (sym round) ∙ s.kept n within in
     let gained : apart % 65537 ≡ slice_index e n = ap (λ (r : ℕ). sum_by (λ k. slice_index y (n - k) * difference_at cu cv k) (numbers r) % 65537) (sym round)
     ∙ gained-wanted cu cv e count x y n good_u s none within in
-    let split : to_u % 65537 ≡ (apart + to_v) % 65537 = sum_by-mod_plus _ _ _ (numbers t) (all_range _ (16 * t) (λ k less. times (slice_index y (n - k)) (slice_index cu k) (slice_index cv k) (good_v k))) in
+    let split : to_u % 65537 ≡ (apart + to_v) % 65537 = sum_by-mod_plus _ _ _ (numbers t) (all_range _ (16 * t) (λ k less. times (slice_index y (n - k)) (slice_index cu k)
+    (slice_index cv k) (good_v k))) in
     ap (λ (z : ℕ). (z + slice_index e n) % 65537) (added-by cv d x y t n same) ∙ together (slice_index x n) to_u to_v apart (slice_index e n) kept gained split
   where
     back : (a b : ℕ) → b < 65537 → (symbol_sub a b + b) % 65537 ≡ a % 65537

@@ -53,7 +53,8 @@ no_member net i honest = opposite (is_among net.coalition i) (kept_passes (λ j.
     opposite false h = refl
 
 -- e is zero up to the round of the first difference
-none_early : (net : Net) (k : Pair) (s : ℕ) (x y e : List ℕ) → Steers net k s x y e → (j : ℕ) → j < steered_from (first_difference (heard_symbols net k.u) (heard_symbols net k.v)) → slice_index e j ≡ 0
+none_early : (net : Net) (k : Pair) (s : ℕ) (x y e : List ℕ) → Steers net k s x y e → (j : ℕ) → j < steered_from (first_difference (heard_symbols net k.u) (heard_symbols net k.v)) →
+    slice_index e j ≡ 0
 none_early net k s x y e st j low = st.none j (let r = st.may.in_round in subst (λ (z : ℕ). j < 16 * (z + 1)) r low)
 
 -- what the keys of a station gain, whose received symbols are those of the net's run
@@ -72,14 +73,17 @@ part-gain net k s x y e st i h l within few same =
       | inl smaller ↦ (let is : k.u ≡ i = eqb-true k.u i smaller in
           let ends = st.may.ends in
           let other : (k.v == i) ≡ false = ne_eqb k.v i (λ e. absurd (omega arith)) in
-          let at_u : (j : ℕ) → j < 16 * length h → slice_index (symbols h) j ≡ slice_index (heard_symbols net k.u) j = subst (λ (m : ℕ). (j : ℕ) → j < 16 * length h → slice_index (symbols h) j ≡ slice_index (heard_symbols net m) j) (sym is) same in
+          let at_u : (j : ℕ) → j < 16 * length h → slice_index (symbols h) j ≡ slice_index (heard_symbols net k.u) j = subst (λ (m : ℕ). (j : ℕ) → j < 16 * length h →
+          slice_index (symbols h) j ≡ slice_index (heard_symbols net m) j) (sym is) same in
           let kept : g % 65537 ≡ 0 = smaller-gain (heard_symbols net k.u) (heard_symbols net k.v) e (16 * net.words) x y (symbols h) (length h) l st.steering few low at_u in
           at_smaller (k.u == i) (k.v == i) z g (slice_index e n) smaller other kept)
       | inr not_smaller ↦ elim (cases_Bool (k.v == i)) [
         | inl larger ↦ (let is : k.v ≡ i = eqb-true k.v i larger in
-            let at_v : (j : ℕ) → j < 16 * length h → slice_index (symbols h) j ≡ slice_index (heard_symbols net k.v) j = subst (λ (m : ℕ). (j : ℕ) → j < 16 * length h → slice_index (symbols h) j ≡ slice_index (heard_symbols net m) j) (sym is) same in
+            let at_v : (j : ℕ) → j < 16 * length h → slice_index (symbols h) j ≡ slice_index (heard_symbols net k.v) j = subst (λ (m : ℕ). (j : ℕ) → j < 16 * length h →
+            slice_index (symbols h) j ≡ slice_index (heard_symbols net m) j) (sym is) same in
             let lost : (g + slice_index e n) % 65537 ≡ 0 = larger-loss (heard_symbols net k.u) (heard_symbols net k.v) e (16 * net.words) x y (symbols h) (length h) l
-            (heard_are net k.u (honest_below net k.u st.may.honest_smaller)) (heard_are net k.v (honest_below net k.v st.may.honest_larger)) st.steering (none_early net k s x y e st) few low at_v in
+            (heard_are net k.u (honest_below net k.u st.may.honest_smaller)) (heard_are net k.v (honest_below net k.v st.may.honest_larger)) st.steering
+            (none_early net k s x y e st) few low at_v in
             at_larger (k.u == i) (k.v == i) z g (slice_index e n) not_smaller larger lost)
         | inr not_larger ↦ elsewhere (k.u == i) (k.v == i) z g (slice_index e n) not_smaller not_larger
       ]
@@ -139,7 +143,8 @@ station-kept net k s x y e st stream t i within low nothing =
     let part : List Pair → ℕ → ℕ = λ ps j. slice_index (key_part ps i h) j in
     let plain : ℕ → ℕ = λ j. slice_index (plain_word stream h) j in
     word_of-same (λ j. (plain j + part (pairs_at net k (changed_pair k x y)) j) % 65537) (λ j. (plain j + part (pairs_at net k k) j) % 65537) (λ l few.
-    same (plain l) (part (pairs_at net k k) l) (part (pairs_at net k (changed_pair k x y)) l) (word_gain k e i (16 * t + l)) (nothing l few) (round-part net k s x y e st t i l within low few))
+    same (plain l) (part (pairs_at net k k) l) (part (pairs_at net k (changed_pair k x y)) l) (word_gain k e i (16 * t + l)) (nothing l few)
+    (round-part net k s x y e st t i l within low few))
   where
     same : (p z z' c : ℕ) → c ≡ 0 → z' ≡ (z + c) % 65537 → (p + z') % 65537 ≡ (p + z) % 65537
     same p z z' c none is = omega arith
@@ -158,7 +163,8 @@ range-same f g n d same = fill_by_all g (map f (range_with_len 0 n)) n d (length
 
 -- the words of a round by those of the honest stations
 abbrev words_from : Net → Turn → List (List ℕ) → List (List ℕ) → List (List ℕ)
-words_from net turn before honest = map (λ i. if is_among net.coalition i then word_by_rule turn.says (before ++ honest) net.stations i else word_of_station honest i) (range_with_len 0 net.stations)
+words_from net turn before honest = map (λ i. if is_among net.coalition i then word_by_rule turn.says (before ++ honest) net.stations i else word_of_station honest i)
+    (range_with_len 0 net.stations)
 
 -- in a round up to s the words stay
 early_words : (net : Net) (k : Pair) (s : ℕ) (x y e : List ℕ) → Steers net k s x y e → (t : ℕ) → t ≤ s → t < net.words →
@@ -202,20 +208,24 @@ word_is : (net : Net) (played : List Round) (i : ℕ) → i < net.stations → w
 word_is net played i low =
     let honest = honest_words net played in
     let says = word_by_rule (script_turn net (length played)).says (published played ++ honest) net.stations i in
-    get_or-map-range_with_len (λ j. if is_among net.coalition j then word_by_rule (script_turn net (length played)).says (published played ++ honest) net.stations j else word_of_station honest j) 0 net.stations i i
+    get_or-map-range_with_len (λ j. if is_among net.coalition j then word_by_rule (script_turn net (length played)).says
+    (published played ++ honest) net.stations j else word_of_station honest j) 0 net.stations i i
     zero_word low (omega arith)
     ∙ ap (λ (w : List ℕ). if is_among net.coalition i then says else w)
-    (get_or-map-range_with_len (λ j. if is_among net.coalition j then zero_word else station_word (station_stream net j) net.keys.pairs j (history played j)) 0 net.stations i i zero_word low (omega arith))
+    (get_or-map-range_with_len (λ j. if is_among net.coalition j then zero_word else station_word (station_stream net j) net.keys.pairs j
+    (history played j)) 0 net.stations i i zero_word low (omega arith))
 
 -- a member's, and an honest station's
 member_word : (net : Net) (played : List Round) (i : ℕ) → i < net.stations → is_among net.coalition i ≡ true → word_of_station (next_words net played) i
     ≡ word_by_rule (script_turn net (length played)).says (published played ++ honest_words net played) net.stations i
-member_word net played i low member = word_is net played i low ∙ ap (λ (b : Bool). if b then word_by_rule (script_turn net (length played)).says (published played ++ honest_words net played) net.stations i else
+member_word net played i low member = word_is net played i low
+    ∙ ap (λ (b : Bool). if b then word_by_rule (script_turn net (length played)).says (published played ++ honest_words net played) net.stations i else
     (if is_among net.coalition i then zero_word else station_word (station_stream net i) net.keys.pairs i (history played i))) member
 
 own_word : (net : Net) (played : List Round) (i : ℕ) → i < net.stations → is_among net.coalition i ≡ false → word_of_station (next_words net played) i
     ≡ station_word (station_stream net i) net.keys.pairs i (history played i)
-own_word net played i low honest = word_is net played i low ∙ ap (λ (b : Bool). if b then word_by_rule (script_turn net (length played)).says (published played ++ honest_words net played) net.stations i else
+own_word net played i low honest = word_is net played i low
+    ∙ ap (λ (b : Bool). if b then word_by_rule (script_turn net (length played)).says (published played ++ honest_words net played) net.stations i else
     (if b then zero_word else station_word (station_stream net i) net.keys.pairs i (history played i))) honest
 
 -- both are words
@@ -244,13 +254,16 @@ gained_word net k s x y e st t i l within low few =
           (ap (λ (ws : List (List ℕ)). word_of_station ws i) (early_words net k s x y e st t (omega arith) within (early_rounds net k s x y e st t (omega arith) some)))
       | inr late ↦ elim (cases_Bool (is_among net.coalition i)) [
         | inl member ↦ (let f = st.may.fixed t (omega arith) within in
-            let says : (n : List Round) → length n ≡ t → (ws : List (List ℕ)) → word_by_rule (script_turn net (length n)).says ws net.stations i ≡ word_by_rule (script_turn net t).says [] net.stations i = λ n size ws.
+            let says : (n : List Round) → length n ≡ t → (ws : List (List ℕ)) → word_by_rule (script_turn net (length n)).says ws net.stations i
+            ≡ word_by_rule (script_turn net t).says [] net.stations i = λ n size ws.
             ap (λ (m : ℕ). word_by_rule (script_turn net m).says ws net.stations i) size ∙ fixed_word (script_turn net t).says ws [] net.stations i f.fixed_says in
             let other : (k.v == i) ≡ false = ne_eqb k.v i (λ is. true≢false (sym member ∙ subst (λ (z : ℕ). is_among net.coalition z ≡ false) is (no_member net k.v st.may.honest_larger))) in
             no_gain (ap (λ (c : Bool). cond c (slice_index e (16 * t + l)) 0) other)
             (member_word b in_b i low member ∙ says in_b (length-rounds_of b t) _ ∙ sym (says in_a (length-rounds_of a t) _) ∙ sym (member_word a in_a i low member)))
-        | inr honest ↦ (let same = same_histories net (pairs_at net k (changed_pair k x y)) (pairs_at net k k) s (early_rounds net k s x y e st (s + 1) (omega arith) some) st.may.fixed t i (omega arith) low in
-            ap (λ (w : List ℕ). slice_index w l) (own_word b in_b i low honest ∙ ap (λ (h : List (List ℕ)). station_word (station_stream net i) (pairs_at net k (changed_pair k x y)) i h) same)
+        | inr honest ↦ (let same = same_histories net (pairs_at net k (changed_pair k x y)) (pairs_at net k k) s (early_rounds net k s x y e st (s + 1)
+            (omega arith) some) st.may.fixed t i (omega arith) low in
+            ap (λ (w : List ℕ). slice_index w l) (own_word b in_b i low honest
+            ∙ ap (λ (h : List (List ℕ)). station_word (station_stream net i) (pairs_at net k (changed_pair k x y)) i h) same)
             ∙ station-gain net k s x y e st (station_stream net i) t i l within low few
             ∙ ap (λ (w : List ℕ). (slice_index w l + word_gain k e i (16 * t + l)) % 65537) (sym (own_word a in_a i low honest)))
       ]
@@ -261,7 +274,8 @@ gained_word net k s x y e st t i l within low few =
 
 -- a sum over the words of a round, by station
 by_station : (f : List ℕ → ℕ) (ws : List (List ℕ)) (n : ℕ) → length ws ≡ n → sum_by f ws ≡ sum_by (λ i. f (word_of_station ws i)) (range_with_len 0 n)
-by_station f ws n size = ap (λ (vs : List (List ℕ)). sum_by f vs) (fill_by_all (word_of_station ws) ws n zero_word size (λ i low. refl)) ∙ sum_by-map f (word_of_station ws) (range_with_len 0 n)
+by_station f ws n size = ap (λ (vs : List (List ℕ)). sum_by f vs) (fill_by_all (word_of_station ws) ws n zero_word size (λ i low. refl))
+    ∙ sum_by-map f (word_of_station ws) (range_with_len 0 n)
 
 -- what the sum of a round gains
 pub gained_sum : (net : Net) (k : Pair) (s : ℕ) (x y e : List ℕ) → Steers net k s x y e → (t l : ℕ) → t < net.words → l < 16 →

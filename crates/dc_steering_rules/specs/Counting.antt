@@ -5,7 +5,7 @@ use Rattle.dc_spec.specs.Words.{zero_word}
 use Rattle.dc_spec.specs.Pads.{Pair}
 use Rattle.dc_spec.specs.Scripts.{Said, Turn, each}
 use Rattle.dc_spec.specs.Net.{Net}
-use Rattle.dc_formats.specs.KeyFile.{IsPair}
+use Rattle.dc_formats.specs.KeyFile.{IsPair, IsKeys}
 use Rattle.dc_key_rules.specs.PairKeys.{symbols}
 use Rattle.dc_graph_rules.specs.Graphs.{key_graph, are_neighbours}
 use Rattle.dc_net_rules.specs.Nets.{IsNet}
@@ -67,9 +67,10 @@ OthersSayTheSame net other v =
     (t i : ℕ) → t < net.words → i < net.stations → i ≢ v
     → word_said other t i ≡ word_said net t i
 
--- another net of the same stations and words says the words of a net up to round s, its later sums
--- are the wanted ones, and each station but v says the same words in all rounds
+-- another net of the same stations and words has keys, says the words of a net up to round s, its
+-- later sums are the wanted ones, and each station but v says the same words in all rounds
 pub record IsSteeredTo (net : Net) (v s : ℕ) (wanted : List (List ℕ)) (other : Net) : Type 0 where
+  pub are_keys : IsKeys other.keys
   pub early : published (rounds_of other (s + 1)) ≡ published (rounds_of net (s + 1))
   pub later : drop (s + 1) (run_of other).sums ≡ wanted
   pub others_same : OthersSayTheSame net other v

@@ -1,12 +1,12 @@
 -- Laws of steerings.
-use Rattle.std.specs.Prelude.{ℕ, ◌+◌, ◌-◌, ◌≡◌, ◌≢◌, List, length, drop, slice_index}
+use Rattle.std.specs.Prelude.{ℕ, ◌+◌, ◌-◌, ◌<◌, ◌≡◌, ◌≢◌, List, length, drop, slice_index}
 use Rattle.dc_spec.specs.Words.{AreWords}
 use Rattle.dc_spec.specs.Pads.{Pair}
 use Rattle.dc_spec.specs.Net.{Net}
 use Rattle.dc_net_rules.specs.Runs.{run_of}
 use Rattle.dc_spec.specs.Symbols.{AreSymbols}
 use Rattle.dc_steering_rules.specs.Steerings.{first_difference, first_changes, second_changes, IsSteering, with_pair, steered_net}
-use Rattle.dc_steering_rules.specs.Counting.{MaySteer, IsKeyListFor, OthersSayTheSame, steered_between, own_pair, IsSteeredTo}
+use Rattle.dc_steering_rules.specs.Counting.{MaySteer, IsKeyListFor, OthersSayTheSame, steered_between, own_pair, IsSteeredTo, heard_symbols}
 
 -- where two stations received different symbols, the computed changes of first and second pads are
 -- a steering
@@ -33,6 +33,13 @@ KeyListsAreAsMany =
     (let k' = steered_between net s k w w' in
     IsKeyListFor net u v s w' k' × (steered_between net s k' w' w ≡ k)
     × OthersSayTheSame (with_pair net k) (with_pair net k') v)
+
+-- with each key list all stations receive what they receive in the net's own run
+abbrev pub KeyListsAreHeardAlike : Type 0
+KeyListsAreHeardAlike =
+    (net : Net) (u v s : ℕ) → MaySteer net u v s → (w : List (List ℕ)) (k : Pair)
+    → IsKeyListFor net u v s w k → (i : ℕ) → i < net.stations
+    → heard_symbols (with_pair net k) i ≡ heard_symbols net i
 
 -- the pads of the net itself are a key list for the later sums of its own run
 abbrev pub OwnPadsAreListed : Type 0

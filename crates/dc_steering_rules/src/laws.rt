@@ -3,6 +3,7 @@
 ghost use Rattle.dc_steering_rules.specs.Laws.{
   ComputedChangesSteer,
   KeyListsAreAsMany,
+  KeyListsAreHeardAlike,
   OwnPadsAreListed,
   SteeredSumsAreWanted,
   SteeringsAreComputed,
@@ -37,4 +38,9 @@ pub fn own_pads_are_listed()
 /// of its run up to that round; each station but the larger end says the same words in all rounds.
 pub fn steered_sums_are_wanted()
     ensures { SteeredSumsAreWanted }
+{}
+
+/// With each of these pads all stations receive what they receive in the run of the net itself.
+pub fn key_lists_are_heard_alike()
+    ensures { KeyListsAreHeardAlike }
 {}

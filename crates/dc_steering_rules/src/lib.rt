@@ -4,6 +4,6 @@
 mod laws;
 
 pub use laws::{
-    computed_changes_steer, key_lists_are_as_many, own_pads_are_listed, steered_sums_are_wanted,
-    steerings_are_computed,
+    computed_changes_steer, key_lists_are_as_many, key_lists_are_heard_alike, own_pads_are_listed,
+    steered_sums_are_wanted, steerings_are_computed,
 };
