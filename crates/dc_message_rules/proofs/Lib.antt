@@ -2,3 +2,4 @@ pub mod Deliveries
 pub mod PlainSums
 pub mod Tallies
 pub mod SentGroups
+pub mod Parting
