@@ -3,3 +3,4 @@ pub mod PlainSums
 pub mod Tallies
 pub mod SentGroups
 pub mod Parting
+pub mod Trees
