@@ -4,3 +4,4 @@ pub mod Tallies
 pub mod SentGroups
 pub mod Parting
 pub mod Trees
+pub mod Growing
