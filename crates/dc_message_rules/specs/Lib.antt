@@ -1,3 +1,4 @@
 pub mod PlainSums
 pub mod Tallies
+pub mod Shares
 pub mod Laws
