@@ -2,5 +2,6 @@ pub mod CommandLemmas
 pub mod RanLemmas
 pub mod ShelfLemmas
 pub mod MakingLemmas
+pub mod TrialLemmas
 pub mod PromiseLemmas
 mod Rows

@@ -11,5 +11,6 @@ pub mod Making
 pub mod Keygen
 pub mod KeygenSeeds
 pub mod Migrating
+pub mod Trials
 pub mod Ran
 pub mod Promises

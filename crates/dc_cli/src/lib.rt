@@ -13,6 +13,7 @@ mod pieces;
 mod reading;
 mod summing;
 mod top;
+mod trial;
 mod writing;
 
 pub use fault_line::put_fault;
