@@ -10,3 +10,4 @@ pub mod WorkedSessions
 pub mod WorkedStations
 pub mod WorkedSteerings
 pub mod WorkedTwins
+mod NetWithinLimits

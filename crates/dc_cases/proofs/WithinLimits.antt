@@ -21,11 +21,11 @@ use Rattle.dc_cases.proofs.SharedValues.{two_ends, small_value, constant, term_o
 use Rattle.dc_cases.proofs.WorkedFiles.{opposite_words, dealing_script, ruled_script, small_keys}
 
 -- a bound that a test finds for every number of a list
-below_by_test : (bound : ℕ) (xs : List ℕ) → list_all (λ x. nat_lt x bound) xs ≡ true → All (λ x. x < bound) xs
+pub below_by_test : (bound : ℕ) (xs : List ℕ) → list_all (λ x. nat_lt x bound) xs ≡ true → All (λ x. x < bound) xs
 below_by_test bound xs e = All-weaker (λ x. nat_lt x bound ≡ true) (λ x. x < bound) (λ x passed. grind (arith, nat_tests)) xs (AllPass-from_list_all (λ x. nat_lt x bound) xs e)
 
 -- a number of a list, or 0 past its end
-number_at : (bound : ℕ) (w : List ℕ) (l : ℕ) → 0 < bound → All (λ x. x < bound) w → get_or w l 0 < bound
+pub number_at : (bound : ℕ) (w : List ℕ) (l : ℕ) → 0 < bound → All (λ x. x < bound) w → get_or w l 0 < bound
 number_at bound w l some below = elim (cases_lt l (length w)) [ inl lt ↦ below l 0 lt | inr past ↦ rw (get_or_past w l 0 past) some ]
 
 -- a word, by its length and a test of its symbols
@@ -105,16 +105,16 @@ frames_fit = All-cons IsFrame (hello 0 2 2) (send 1 (two_ends 1 2) ∷ []) (omeg
     (All-cons IsFrame (send 1 (two_ends 1 2)) [] (omega arith, word_by_test (two_ends 1 2) refl refl) (All-nil IsFrame))
 
 -- sixteen zeros
-zero_is_word : IsWord zero_word
+pub zero_is_word : IsWord zero_word
 unfolding word_of
 zero_is_word = word_by_test (replicate 16 0) refl refl
 
 -- a station's word without terms
-constant_fits : (r i : ℕ) (w : List ℕ) → i < 65536 → IsWord w → IsSaid r (constant i w)
+pub constant_fits : (r i : ℕ) (w : List ℕ) → i < 65536 → IsWord w → IsSaid r (constant i w)
 constant_fits r i w small is = record { station = small; is_word = is; are_terms = All-nil (IsTerm r); rising = λ k d lt. absurd (omega arith) }
 
 -- one station's word
-one_said : (r : ℕ) (s : Said) → IsSaid r s → AreSaid r (s ∷ [])
+pub one_said : (r : ℕ) (s : Said) → IsSaid r s → AreSaid r (s ∷ [])
 one_said r s is = record { stations_rise = λ k lt. absurd (omega arith); are_said = All-cons (IsSaid r) s [] is (All-nil (IsSaid r)) }
 
 -- the words of two stations
@@ -125,7 +125,7 @@ two_said r s t lt is is' = record {
 }
 
 -- a round whose sum all receive
-summing_turn : (r : ℕ) (says : List Said) → AreSaid r says → IsTurn r (record { says = says; delivery = all_sum })
+pub summing_turn : (r : ℕ) (says : List Said) → AreSaid r says → IsTurn r (record { says = says; delivery = all_sum })
 summing_turn r says said = record { said = said; some_dealt = λ other e. cc; dealt_words = λ other e. cc }
 
 -- a round that deals these words

@@ -70,7 +70,7 @@ unfolding reached
 admitted_in_ring = refl
 
 -- all honest stations of the ring receive the sums
-ring_is_alike : is_alike ring ≡ true
+pub ring_is_alike : is_alike ring ≡ true
 unfolding computing rounds_of
 ring_is_alike = refl
 

@@ -6,7 +6,7 @@ use Rattle.dc_cli.specs.Making.{Making, MadeOfFile, MakesOf}
 use Rattle.dc_cli.specs.Promises.{LeavesOthers, TellsName}
 use Rattle.dc_cli.specs.declared.outcome.FileFault.{FileFault}
 use Rattle.dc_cli.specs.declared.outcome.Outcome.{Outcome}
-use Rattle.dc_cli.specs.declared.outcome.Outcome.TheVariants.{Done, Usage, Missing, TooLong, Malformed, ShelfFault, SinkFault, NoMemory}
+use Rattle.dc_cli.specs.declared.outcome.Outcome.TheVariants.{Done, Usage, Missing, TooLong, Malformed, Disagree, ShelfFault, SinkFault, NoMemory}
 use Rattle.dc_edge.proofs.PutLemmas.{Rose-earlier}
 use Rattle.dc_cli.proofs.ShelfLemmas.{told_bytes, held_is_there, held_within, others_since, others_of_all, AskedUpTo, asked_none, asked_first, asked_whole, asked_two, LastAsked, last_is}
 
@@ -19,6 +19,7 @@ MadeOfFile-kept m s s' (Err ShelfFault) p = p.kept
 MadeOfFile-kept m s s' (Err NoMemory) p = elim p [ inl u ↦ u.0 | inr g ↦ g.read.kept ]
 MadeOfFile-kept m s s' (Err Done) p = absurd p
 MadeOfFile-kept m s s' (Err (Usage place)) p = absurd p
+MadeOfFile-kept m s s' (Err (Disagree fault)) p = absurd p
 MadeOfFile-kept m s s' (Err SinkFault) p = absurd p
 
 -- the name that is written may change, no other name does
@@ -36,6 +37,7 @@ MadeOfFile-asked m s s' (Err ShelfFault) p = asked_first m.source (m.target ∷ 
 MadeOfFile-asked m s s' (Err NoMemory) p = elim p [ inl u ↦ asked_none (m.source ∷ m.target ∷ []) s s' u.1 | inr g ↦ asked_first m.source (m.target ∷ []) s s' g.read.asked ]
 MadeOfFile-asked m s s' (Err Done) p = absurd p
 MadeOfFile-asked m s s' (Err (Usage place)) p = absurd p
+MadeOfFile-asked m s s' (Err (Disagree fault)) p = absurd p
 MadeOfFile-asked m s s' (Err SinkFault) p = absurd p
 
 -- where all was done, the file was asked for, then the name that is written
@@ -96,6 +98,7 @@ MakesOf-ends m s s' (Malformed name fault) read told le calm p = inr (inl (fault
 MakesOf-ends m s s' (Missing name) read told le calm p = absurd (elim p.1.answer [ inl gone ↦ held_is_there (s.holds m.source) read told gone | inr rose ↦ calm rose.1 ])
 MakesOf-ends m s s' (TooLong name) read told le calm p = absurd (elim p.1.answer [ inl above ↦ held_within (s.holds m.source) read m.limit told le above | inr rose ↦ calm rose.1 ])
 MakesOf-ends m s s' (Usage place) read told le calm p = absurd p
+MakesOf-ends m s s' (Disagree fault) read told le calm p = absurd p
 MakesOf-ends m s s' SinkFault read told le calm p = absurd p
 
 pub MakesOf-completes : (m : Making) (s s' : ShelfState) (outcome : Outcome) (read bytes : List ℕ) → s.holds m.source ≡ held read → length read ≤ m.limit → m.due read ≡ Ok bytes

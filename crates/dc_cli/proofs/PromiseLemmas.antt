@@ -28,9 +28,9 @@ use Rattle.dc_cli.specs.Migrating.{pads_for, migrate_making}
 use Rattle.dc_cli.specs.Ran.{Ran, CommandRan}
 use Rattle.dc_cli.specs.Promises.{Call, AsksFor, RefusesOtherWords, Leaves, KeepsFiles, AsksInOrder, PrintsOnlyWhenDone, PrintsSums, HasLimit, TellsName, TellsTheLast, MissesTheAbsent, RefusesTheLong, TellsTheFault, RefusesTheMalformed, HasCauses, Completes, MakesFile, making_of, MakesFiles, WritesKeys, WritesSeeds, WritesPads}
 use Rattle.dc_cli.specs.declared.outcome.FileFault.{FileFault}
-use Rattle.dc_cli.specs.declared.outcome.FileFault.TheVariants.{Transcript, Keys, Manifest}
+use Rattle.dc_cli.specs.declared.outcome.FileFault.TheVariants.{Transcript, Keys, Manifest, Stream, Script}
 use Rattle.dc_cli.specs.declared.outcome.Outcome.{Outcome}
-use Rattle.dc_cli.specs.declared.outcome.Outcome.TheVariants.{Done, Usage, Missing, TooLong, Malformed, ShelfFault, SinkFault, NoMemory}
+use Rattle.dc_cli.specs.declared.outcome.Outcome.TheVariants.{Done, Usage, Missing, TooLong, Malformed, Disagree, ShelfFault, SinkFault, NoMemory}
 use Rattle.dc_cli.proofs.ShelfLemmas.{told_bytes, held_is_there, held_within, AskedUpTo, asked_none, asked_first, LastAsked, last_is}
 use Rattle.dc_cli.proofs.MakingLemmas.{MakesOf-leaves, MakesOf-asked, MakesOf-asked_all, MakesOf-last, MakesOf-rose, MakesOf-missing, MakesOf-long, MakesOf-written, MakesOf-fault, MakesOf-completes, MakesOf-refuses}
 
@@ -120,10 +120,13 @@ SummedFile-kept file s s' (Err (TooLong name)) p = p.1.kept
 SummedFile-kept file s s' (Err (Malformed name (Transcript fault))) p = p.1.read.kept
 SummedFile-kept file s s' (Err (Malformed name (Keys fault))) p = absurd p
 SummedFile-kept file s s' (Err (Malformed name (Manifest fault))) p = absurd p
+SummedFile-kept file s s' (Err (Malformed name (Stream fault))) p = absurd p
+SummedFile-kept file s s' (Err (Malformed name (Script fault))) p = absurd p
 SummedFile-kept file s s' (Err ShelfFault) p = p.kept
 SummedFile-kept file s s' (Err NoMemory) p = elim p [ inl u ↦ u.0 | inr g ↦ g.read.kept ]
 SummedFile-kept file s s' (Err Done) p = absurd p
 SummedFile-kept file s s' (Err (Usage place)) p = absurd p
+SummedFile-kept file s s' (Err (Disagree fault)) p = absurd p
 SummedFile-kept file s s' (Err SinkFault) p = absurd p
 
 SumRan-kept : (file : List ℕ) (s s' : ShelfState) (o o' : SinkState) (outcome : Outcome) → SumRan file s s' o o' outcome → s'.holds ≡ s.holds
@@ -138,10 +141,13 @@ SummedFile-asked file s s' (Err (TooLong name)) p = asked_first file [] s s' p.1
 SummedFile-asked file s s' (Err (Malformed name (Transcript fault))) p = asked_first file [] s s' p.1.read.asked
 SummedFile-asked file s s' (Err (Malformed name (Keys fault))) p = absurd p
 SummedFile-asked file s s' (Err (Malformed name (Manifest fault))) p = absurd p
+SummedFile-asked file s s' (Err (Malformed name (Stream fault))) p = absurd p
+SummedFile-asked file s s' (Err (Malformed name (Script fault))) p = absurd p
 SummedFile-asked file s s' (Err ShelfFault) p = asked_first file [] s s' p.asked
 SummedFile-asked file s s' (Err NoMemory) p = elim p [ inl u ↦ asked_none (file ∷ []) s s' u.1 | inr g ↦ asked_first file [] s s' g.read.asked ]
 SummedFile-asked file s s' (Err Done) p = absurd p
 SummedFile-asked file s s' (Err (Usage place)) p = absurd p
+SummedFile-asked file s s' (Err (Disagree fault)) p = absurd p
 SummedFile-asked file s s' (Err SinkFault) p = absurd p
 
 SumRan-asked : (file : List ℕ) (s s' : ShelfState) (o o' : SinkState) (outcome : Outcome) → SumRan file s s' o o' outcome → AskedUpTo (file ∷ []) s s'
@@ -276,6 +282,8 @@ SummedFile-last : (file : List ℕ) (s s' : ShelfState) (name : List ℕ) (fault
 SummedFile-last file s s' name (Transcript fault) p = last_is name file s s' p.0 p.1.read.asked
 SummedFile-last file s s' name (Keys fault) p = absurd p
 SummedFile-last file s s' name (Manifest fault) p = absurd p
+SummedFile-last file s s' name (Stream fault) p = absurd p
+SummedFile-last file s s' name (Script fault) p = absurd p
 
 SumRan-last : (file : List ℕ) (s s' : ShelfState) (o o' : SinkState) (outcome : Outcome) (name : List ℕ) → TellsName outcome name → SumRan file s s' o o' outcome → LastAsked name s s'
 SumRan-last file s s' o o' outcome name tells p =
@@ -330,12 +338,15 @@ SumRan-completes file session s s' o o' NoMemory is told le calm_shelf calm_sink
 SumRan-completes file session s s' o o' SinkFault is told le calm_shelf calm_sink p = absurd (calm_sink p.1.put.answer.1)
 SumRan-completes file session s s' o o' ShelfFault is told le calm_shelf calm_sink p = absurd (calm_shelf p.1.answer)
 SumRan-completes file session s s' o o' (Usage place) is told le calm_shelf calm_sink p = absurd p.1
+SumRan-completes file session s s' o o' (Disagree fault) is told le calm_shelf calm_sink p = absurd p.1
 SumRan-completes file session s s' o o' (Missing name) is told le calm_shelf calm_sink p =
     absurd (elim p.1.1.answer [ inl gone ↦ held_is_there (s.holds file) (transcript_bytes session) told gone | inr rose ↦ calm_shelf rose.1 ])
 SumRan-completes file session s s' o o' (TooLong name) is told le calm_shelf calm_sink p =
     absurd (elim p.1.1.answer [ inl above ↦ held_within (s.holds file) (transcript_bytes session) transcript_limit told le above | inr rose ↦ calm_shelf rose.1 ])
 SumRan-completes file session s s' o o' (Malformed name (Keys fault)) is told le calm_shelf calm_sink p = absurd p.1
 SumRan-completes file session s s' o o' (Malformed name (Manifest fault)) is told le calm_shelf calm_sink p = absurd p.1
+SumRan-completes file session s s' o o' (Malformed name (Stream fault)) is told le calm_shelf calm_sink p = absurd p.1
+SumRan-completes file session s s' o o' (Malformed name (Script fault)) is told le calm_shelf calm_sink p = absurd p.1
 SumRan-completes file session s s' o o' (Malformed name (Transcript fault)) is told le calm_shelf calm_sink p =
     let same : p.1.1.bytes ≡ transcript_bytes session = told_bytes (s.holds file) (transcript_bytes session) p.1.1.bytes told p.1.1.read.answer.1 in
     absurd (p.1.1.holds.no_transcript session is same)
@@ -353,12 +364,15 @@ SumRan-refuses file bytes fault s s' o o' SinkFault told le bad calm p =
     absurd cc
 SumRan-refuses file bytes fault s s' o o' ShelfFault told le bad calm p = absurd (calm p.1.answer)
 SumRan-refuses file bytes fault s s' o o' (Usage place) told le bad calm p = absurd p.1
+SumRan-refuses file bytes fault s s' o o' (Disagree seen) told le bad calm p = absurd p.1
 SumRan-refuses file bytes fault s s' o o' (Missing name) told le bad calm p =
     absurd (elim p.1.1.answer [ inl gone ↦ held_is_there (s.holds file) bytes told gone | inr rose ↦ calm rose.1 ])
 SumRan-refuses file bytes fault s s' o o' (TooLong name) told le bad calm p =
     absurd (elim p.1.1.answer [ inl above ↦ held_within (s.holds file) bytes transcript_limit told le above | inr rose ↦ calm rose.1 ])
 SumRan-refuses file bytes fault s s' o o' (Malformed name (Keys seen)) told le bad calm p = absurd p.1
 SumRan-refuses file bytes fault s s' o o' (Malformed name (Manifest seen)) told le bad calm p = absurd p.1
+SumRan-refuses file bytes fault s s' o o' (Malformed name (Stream seen)) told le bad calm p = absurd p.1
+SumRan-refuses file bytes fault s s' o o' (Malformed name (Script seen)) told le bad calm p = absurd p.1
 SumRan-refuses file bytes fault s s' o o' (Malformed name (Transcript seen)) told le bad calm p =
     let same : p.1.1.bytes ≡ bytes = told_bytes (s.holds file) bytes p.1.1.bytes told p.1.1.read.answer.1 in
     let other : transcript_of bytes ≡ Err seen = ap transcript_of (sym same) ∙ p.1.1.holds.first_fault in

@@ -2,6 +2,7 @@ pub mod Outcomes
 pub mod Pieces
 pub mod KeyFaultText
 pub mod ManifestFaultText
+pub mod NetFaultTexts
 pub mod Lines
 pub mod Forms
 pub mod Commands
@@ -11,6 +12,7 @@ pub mod Making
 pub mod Keygen
 pub mod KeygenSeeds
 pub mod Migrating
+pub mod Replaying
 pub mod Trials
 pub mod Ran
 pub mod Promises

@@ -6,10 +6,11 @@ use Rattle.dc_superpose.specs.declared.fault.TranscriptFault.TheVariants.{Trunca
 use Rattle.dc_cli.specs.Pieces.{numbered}
 use Rattle.dc_cli.specs.KeyFaultText.{key_fault_text}
 use Rattle.dc_cli.specs.ManifestFaultText.{manifest_fault_text}
+use Rattle.dc_cli.specs.NetFaultTexts.{stream_fault_text, script_fault_text, net_fault_text}
 use Rattle.dc_cli.specs.declared.outcome.FileFault.{FileFault}
-use Rattle.dc_cli.specs.declared.outcome.FileFault.TheVariants.{Transcript, Keys, Manifest}
+use Rattle.dc_cli.specs.declared.outcome.FileFault.TheVariants.{Transcript, Keys, Manifest, Stream, Script}
 use Rattle.dc_cli.specs.declared.outcome.Outcome.{Outcome}
-use Rattle.dc_cli.specs.declared.outcome.Outcome.TheVariants.{Done, Usage, Missing, TooLong, Malformed, ShelfFault, SinkFault, NoMemory}
+use Rattle.dc_cli.specs.declared.outcome.Outcome.TheVariants.{Done, Usage, Missing, TooLong, Malformed, Disagree, ShelfFault, SinkFault, NoMemory}
 
 -- a fault of a transcript: its name, then its fields
 abbrev pub transcript_fault_text : TranscriptFault → List ℕ
@@ -25,6 +26,8 @@ abbrev pub file_fault_text : FileFault → List ℕ
 file_fault_text (Transcript fault) = transcript_fault_text fault
 file_fault_text (Keys fault) = key_fault_text fault
 file_fault_text (Manifest fault) = manifest_fault_text fault
+file_fault_text (Stream fault) = stream_fault_text fault
+file_fault_text (Script fault) = script_fault_text fault
 
 -- the text of each outcome
 abbrev pub outcome_text : Outcome → List ℕ
@@ -33,6 +36,7 @@ outcome_text (Usage place) = numbered (codes "usage: word ") place
 outcome_text (Missing name) = name ++ codes ": missing"
 outcome_text (TooLong name) = name ++ codes ": too long"
 outcome_text (Malformed name fault) = name ++ codes ": malformed: " ++ file_fault_text fault
+outcome_text (Disagree fault) = codes "files disagree: " ++ net_fault_text fault
 outcome_text ShelfFault = codes "file fault"
 outcome_text SinkFault = codes "output fault"
 outcome_text NoMemory = codes "no memory"

@@ -6,6 +6,7 @@ ghost use Rattle.dc_cli.specs.Lines.{transcript_fault_text, file_fault_text, out
 
 use crate::key_fault::put_key_fault;
 use crate::manifest_fault::put_manifest_fault;
+use crate::net_fault::{put_net_fault, put_script_fault, put_stream_fault};
 use crate::outcome::{FileFault, Outcome};
 use crate::pieces::{put_named, put_number};
 use dc_edge::{Failed, Sink};
@@ -41,6 +42,10 @@ fn put_outcome_text<E: Sink>(o: &Outcome, err: &mut E) -> Result<(), Failed>
             put_named(err, name, b": malformed: ")?;
             put_file_fault(fault, err)
         }
+        Outcome::Disagree { fault } => {
+            err.put(b"files disagree: ")?;
+            put_net_fault(*fault, err)
+        }
         Outcome::ShelfFault => err.put(b"file fault"),
         Outcome::SinkFault => err.put(b"output fault"),
         Outcome::NoMemory => err.put(b"no memory"),
@@ -54,6 +59,8 @@ fn put_file_fault<E: Sink>(fault: &FileFault, err: &mut E) -> Result<(), Failed>
         FileFault::Transcript(fault) => put_transcript_fault(fault, err),
         FileFault::Keys(fault) => put_key_fault(fault, err),
         FileFault::Manifest(fault) => put_manifest_fault(fault, err),
+        FileFault::Stream(fault) => put_stream_fault(*fault, err),
+        FileFault::Script(fault) => put_script_fault(*fault, err),
     }
 }
 

@@ -6,6 +6,9 @@ ghost use Rattle.dc_cli.specs.Outcomes.{status_of};
 use dc_field::Text;
 use dc_keyfile::KeyFault;
 use dc_manifest::ManifestFault;
+use dc_net::NetFault;
+use dc_script::ScriptFault;
+use dc_stream::StreamFault;
 use dc_superpose::TranscriptFault;
 
 /// Why the bytes of a file do not have the format that the command reads.
@@ -17,6 +20,10 @@ pub enum FileFault {
     Keys(KeyFault),
     /// They are no manifest.
     Manifest(ManifestFault),
+    /// They are no stream.
+    Stream(StreamFault),
+    /// They are no script.
+    Script(ScriptFault),
 }
 
 /// How a call ended. Each outcome but `Done` puts one line on the sink of faults.
@@ -32,6 +39,8 @@ pub enum Outcome {
     TooLong { name: Text },
     /// The file does not have its format. Status 5.
     Malformed { name: Text, fault: FileFault },
+    /// The files of a net do not agree. Status 6.
+    Disagree { fault: NetFault },
     /// The shelf failed. Status 8.
     ShelfFault,
     /// The sink of output failed. Status 9.
@@ -50,6 +59,7 @@ pub fn status(o: &Outcome) -> u8
         Outcome::Missing { .. } => 3,
         Outcome::TooLong { .. } => 4,
         Outcome::Malformed { .. } => 5,
+        Outcome::Disagree { .. } => 6,
         Outcome::ShelfFault => 8,
         Outcome::SinkFault => 9,
         Outcome::NoMemory => 12,

@@ -45,21 +45,28 @@ filled_up a b (x ∷ xs) low =
 cancelled : (x y z n t : ℕ) → x + y ≡ z + 65537 * n → y % 65537 ≡ t % 65537 → z % 65537 ≡ t % 65537 → x % 65537 ≡ 0
 cancelled x y z n t e is_y is_z = omega arith
 
+-- a symbol of a station's keys
+pub key_part-symbol : (pairs : List Pair) (i : ℕ) (history : List (List ℕ)) (l : ℕ) → l < 16 →
+    slice_index (key_part pairs i history) l ≡ (sum_by (λ p. slice_index (key_word p (symbols history) (length history)) l) (filter (λ p. p.u == i) pairs) % 65537
+    + (65537 - sum_by (λ p. slice_index (key_word p (symbols history) (length history)) l) (filter (λ p. p.v == i) pairs) % 65537)) % 65537
+key_part-symbol pairs i history l few =
+    let f = λ (p : Pair). slice_index (key_word p (symbols history) (length history)) l in
+    let sum_at : (ps : List Pair) → slice_index (key_sum ps history) l ≡ sum_by f ps % 65537 = λ ps.
+    symbol-word_of (λ k. sum_by (λ w. slice_index w k) (map (λ p. key_word p (symbols history) (length history)) ps) % 65537) l few
+    ∙ ap (λ s. s % 65537) (sum_by-map (λ w. slice_index w l) (λ p. key_word p (symbols history) (length history)) ps) in
+    symbol-word_of (λ k. (slice_index (key_sum (filter (λ p. p.u == i) pairs) history) k + (65537 - slice_index (key_sum (filter (λ p. p.v == i) pairs) history) k)) % 65537) l few
+    ∙ ap (λ s. (s + (65537 - slice_index (key_sum (filter (λ p. p.v == i) pairs) history) l)) % 65537) (sum_at (filter (λ p. p.u == i) pairs))
+    ∙ ap (λ s. (sum_by f (filter (λ p. p.u == i) pairs) % 65537 + (65537 - s)) % 65537) (sum_at (filter (λ p. p.v == i) pairs))
+
 -- where all stations have one history, their keys cancel
 pub keys-cancel : (n : ℕ) (pairs : List Pair) (history : List (List ℕ)) → All (λ p. p.u < n) pairs → All (λ p. p.v < n) pairs → word_sum (map (λ i. key_part pairs i history) (range_with_len 0 n))
     ≡ zero_word
 keys-cancel n pairs history low_u low_v = word_of-same _ (λ l. 0) (λ l inside.
     let stations = range_with_len 0 n in
     let f = λ (p : Pair). slice_index (key_word p (symbols history) (length history)) l in
-    let sum_at : (ps : List Pair) → slice_index (key_sum ps history) l ≡ sum_by f ps % 65537 = λ ps.
-    symbol-word_of (λ k. sum_by (λ w. slice_index w k) (map (λ p. key_word p (symbols history) (length history)) ps) % 65537) l inside
-    ∙ ap (λ s. s % 65537) (sum_by-map (λ w. slice_index w l) (λ p. key_word p (symbols history) (length history)) ps) in
     let a = λ (i : ℕ). sum_by f (filter (λ p. p.u == i) pairs) % 65537 in
     let b = λ (i : ℕ). sum_by f (filter (λ p. p.v == i) pairs) % 65537 in
-    let part_at : (i : ℕ) → slice_index (key_part pairs i history) l ≡ (a i + (65537 - b i)) % 65537 = λ i.
-    symbol-word_of (λ k. (slice_index (key_sum (filter (λ p. p.u == i) pairs) history) k + (65537 - slice_index (key_sum (filter (λ p. p.v == i) pairs) history) k)) % 65537) l inside
-    ∙ ap (λ s. (s + (65537 - slice_index (key_sum (filter (λ p. p.v == i) pairs) history) l)) % 65537) (sum_at (filter (λ p. p.u == i) pairs))
-    ∙ ap (λ s. (a i + (65537 - s)) % 65537) (sum_at (filter (λ p. p.v == i) pairs)) in
+    let part_at : (i : ℕ) → slice_index (key_part pairs i history) l ≡ (a i + (65537 - b i)) % 65537 = λ i. key_part-symbol pairs i history l inside in
     let parts = sum_by-map (λ w. slice_index w l) (λ i. key_part pairs i history) stations ∙ sum_by-same (λ i. slice_index (key_part pairs i history) l) (λ i. (a i + (65537 - b i)) % 65537) stations
     (λ i there. part_at i) in
     let reduced = sum_by-mod (λ i. a i + (65537 - b i)) stations in

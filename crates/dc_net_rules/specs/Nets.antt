@@ -1,5 +1,5 @@
 -- What a checked net of the files keeps.
-use Rattle.std.specs.Prelude.{◌<◌, ◌≡◌, length, Option, Some, All}
+use Rattle.std.specs.Prelude.{◌<◌, ◌≡◌, length, Some, All}
 use Rattle.dc_spec.specs.Entries.{Stream}
 use Rattle.dc_spec.specs.Net.{Net}
 use Rattle.dc_formats.specs.KeyFile.{IsKeys, AreEndsRising}

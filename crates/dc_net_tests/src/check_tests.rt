@@ -234,6 +234,10 @@ fn faults_of_the_script(rt: HostRuntime) {
         "dcscript 1\nround 0\nall\nround 1\nto 0 W\nto 1 W\nto 2 W\n",
         due,
     );
+}
+
+#[test]
+fn faults_of_rules(rt: HostRuntime) {
     let due = NetFault::ScriptRule {
         round: 0,
         station: 2,

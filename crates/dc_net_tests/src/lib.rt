@@ -6,6 +6,8 @@ mod answers;
 #[cfg(test)]
 mod check_tests;
 #[cfg(test)]
+mod file_tests;
+#[cfg(test)]
 mod run_tests;
 #[cfg(test)]
 mod trial_tests;

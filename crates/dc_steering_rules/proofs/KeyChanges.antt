@@ -1,14 +1,14 @@
 -- What changes of the pads of one pair add to a station's keys.
-use Rattle.std.proofs.Common.{◌≡◌, ℕ, zero, suc, ◌+◌, ◌-◌, ◌*◌, ◌%◌, ◌<◌, ◌≤◌, Bool, true, false, cond, ◌==◌, if◌then◌else◌, List, [], ◌∷◌, length, map, filter, get_or, slice_index, sum_by, refl, sym, ◌∙◌, ap, arith}
+use Rattle.std.proofs.Common.{◌≡◌, ℕ, suc, ◌+◌, ◌-◌, ◌*◌, ◌%◌, ◌<◌, Bool, true, false, cond, ◌==◌, if◌then◌else◌, List, [], ◌∷◌, length, map, filter, slice_index, sum_by, sym, ◌∙◌, ap, arith}
 use Rattle.std.specs.List.{range_with_len}
 use Rattle.std.proofs.lemmas.Nat.{mul-mod_first}
 use Rattle.std.proofs.lemmas.List.Sums.{sum_by-cons}
 use Rattle.dc_spec.specs.Pads.{Pair}
 use Rattle.dc_key_rules.specs.PairKeys.{symbols, key_symbol, key_word, key_part, pads_add, changed_pair}
 use Rattle.dc_spec.proofs.WordLemmas.{symbol-word_of}
+use Rattle.dc_key_rules.proofs.KeyLemmas.{key_part-symbol}
 use Rattle.dc_twin_rules.proofs.PadSums.{pads_add-at}
 use Rattle.dc_twin_rules.proofs.KeyedSums.{sum_by-kept, sum_by-mod_plus, all_range}
-use Rattle.dc_twin_rules.proofs.KeyGains.{key_part-symbol}
 use Rattle.dc_steering_rules.specs.Steerings.{has_ends}
 
 -- what changes x of the first pads and y of the second pads add to a symbol of the pair's key

@@ -2,3 +2,11 @@ pub mod SteeringLemmas
 pub mod OneSteering
 pub mod KeyChanges
 pub mod SteeredKeys
+pub mod ReceivedWords
+pub mod SameRuns
+pub mod SteeredRounds
+pub mod Opposite
+pub mod LaterSums
+pub mod OwnPair
+pub mod Steerable
+pub mod EquallyMany

@@ -1,12 +1,12 @@
 -- A steering leaves the keys of the smaller end as they are, and takes from those of the larger end
 -- what the sums gain.
-use Rattle.std.proofs.Common.{◌≡◌, ℕ, ◌+◌, ◌-◌, ◌*◌, ◌/◌, ◌%◌, ◌<◌, ◌≤◌, List, slice_index, sum_by, refl, sym, ◌∙◌, ap, inl, inr, arith, mul-zero, zero-mul}
+use Rattle.std.proofs.Common.{◌≡◌, ℕ, ◌+◌, ◌-◌, ◌*◌, ◌/◌, ◌%◌, ◌<◌, ◌≤◌, List, slice_index, sum_by, sym, ◌∙◌, ap, inl, inr, arith, mul-zero, zero-mul}
 use Rattle.std.specs.List.{range_with_len}
 use Rattle.std.proofs.lemmas.Nat.{mul-mod_second}
 use Rattle.dc_spec.specs.Symbols.{AreSymbols, symbol_sub}
 use Rattle.dc_spec.proofs.ListLemmas.{below_range}
 use Rattle.dc_spec.proofs.SumLemmas.{sum_by-same, sum_by-zero}
-use Rattle.dc_steering_rules.specs.Steerings.{first_difference, steered_from, difference_at, steered_symbol, gained_symbol, IsSteering}
+use Rattle.dc_steering_rules.specs.Steerings.{first_difference, steered_from, difference_at, steered_symbol, IsSteering}
 use Rattle.dc_steering_rules.proofs.SteeringLemmas.{below_or_past, no_difference}
 use Rattle.dc_twin_rules.proofs.KeyedSums.{sum_by-mod_plus, all_range}
 use Rattle.dc_steering_rules.proofs.KeyChanges.{added_symbol}

@@ -3,4 +3,7 @@
 
 mod laws;
 
-pub use laws::{computed_changes_steer, steerings_are_computed};
+pub use laws::{
+    computed_changes_steer, key_lists_are_as_many, own_pads_are_listed, steered_sums_are_wanted,
+    steerings_are_computed,
+};

@@ -1,25 +1,10 @@
 -- What a station's keys gain where the first pads of its pairs change.
-use Rattle.std.proofs.Common.{◌≡◌, ℕ, ◌+◌, ◌-◌, ◌%◌, ◌<◌, ◌≤◌, ◌⊎◌, ◌==◌, ◌&&◌, Bool, true, false, cond, List, length, map, filter, sum_by, nat_eq, Option, Some, None, slice_index, refl, sym, ◌∙◌, ap, subst, inl, inr, arith, eqb-true, true≢false, zero-le}
+use Rattle.std.proofs.Common.{◌≡◌, ℕ, ◌+◌, ◌-◌, ◌%◌, ◌<◌, ◌≤◌, ◌⊎◌, ◌==◌, ◌&&◌, Bool, true, false, cond, List, map, filter, sum_by, nat_eq, Option, Some, None, refl, sym, ◌∙◌, ap, subst, inl, inr, arith, eqb-true, true≢false, zero-le}
 use Rattle.std.specs.List.{All, AllPairs, list_any, range_with_len}
 use Rattle.std.specs.Option.{option_map_or}
 use Rattle.dc_spec.specs.Pads.{Pair}
-use Rattle.dc_spec.proofs.WordLemmas.{symbol-word_of}
 use Rattle.dc_spec.proofs.SumLemmas.{sum_by-map, sum_by-single, sum_by-zero}
-use Rattle.dc_key_rules.specs.PairKeys.{symbols, key_word, key_sum, key_part}
 use Rattle.dc_twin_rules.proofs.KeyedSums.{sum_by-key, sum_by-kept, sum_by-mod_plus}
-
--- a symbol of a station's keys
-pub key_part-symbol : (pairs : List Pair) (i : ℕ) (history : List (List ℕ)) (l : ℕ) → l < 16 →
-    slice_index (key_part pairs i history) l ≡ (sum_by (λ p. slice_index (key_word p (symbols history) (length history)) l) (filter (λ p. p.u == i) pairs) % 65537
-    + (65537 - sum_by (λ p. slice_index (key_word p (symbols history) (length history)) l) (filter (λ p. p.v == i) pairs) % 65537)) % 65537
-key_part-symbol pairs i history l few =
-    let f = λ (p : Pair). slice_index (key_word p (symbols history) (length history)) l in
-    let sum_at : (ps : List Pair) → slice_index (key_sum ps history) l ≡ sum_by f ps % 65537 = λ ps.
-    symbol-word_of (λ k. sum_by (λ w. slice_index w k) (map (λ p. key_word p (symbols history) (length history)) ps) % 65537) l few
-    ∙ ap (λ s. s % 65537) (sum_by-map (λ w. slice_index w l) (λ p. key_word p (symbols history) (length history)) ps) in
-    symbol-word_of (λ k. (slice_index (key_sum (filter (λ p. p.u == i) pairs) history) k + (65537 - slice_index (key_sum (filter (λ p. p.v == i) pairs) history) k)) % 65537) l few
-    ∙ ap (λ s. (s + (65537 - slice_index (key_sum (filter (λ p. p.v == i) pairs) history) l)) % 65537) (sum_at (filter (λ p. p.u == i) pairs))
-    ∙ ap (λ s. (sum_by f (filter (λ p. p.u == i) pairs) % 65537 + (65537 - s)) % 65537) (sum_at (filter (λ p. p.v == i) pairs))
 
 -- what the pairs at one end gain together
 pub end-gain : (end other : Pair → ℕ) (f : Pair → ℕ) (change : Pair → Pair) (Y : ℕ → ℕ → ℕ) (n i : ℕ) (pairs : List Pair) → All (λ q. end (change q) ≡ end q) pairs →

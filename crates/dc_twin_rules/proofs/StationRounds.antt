@@ -1,5 +1,5 @@
 -- An honest station's word in a round is the same in the twin.
-use Rattle.std.proofs.Common.{◌≡◌, ℕ, ◌+◌, ◌-◌, ◌%◌, ◌<◌, ◌≤◌, ◌==◌, ◌||◌, not, Bool, true, false, cond, List, length, map, filter, take, sum_by, slice_index, slice_index_or, None, refl, sym, ◌∙◌, ap, subst, arith, true≢false}
+use Rattle.std.proofs.Common.{◌≡◌, ℕ, ◌+◌, ◌-◌, ◌%◌, ◌<◌, ◌≤◌, ◌==◌, ◌||◌, not, true, false, cond, List, length, map, filter, take, sum_by, slice_index, slice_index_or, None, refl, sym, ◌∙◌, ap, subst, arith}
 use Rattle.std.specs.List.{All, range_with_len}
 use Rattle.std.proofs.lemmas.Bool.{and_parts, not-true}
 use Rattle.dc_spec.specs.Lists.{is_among}
@@ -16,6 +16,7 @@ use Rattle.dc_graph_rules.proofs.ForestLemmas.{parents_ranked, neighbours-comm, 
 use Rattle.dc_graph_rules.proofs.DistanceLemmas.{root-sum}
 use Rattle.dc_graph_rules.proofs.ParentLemmas.{parents-least}
 use Rattle.dc_key_rules.specs.PairKeys.{symbols, key_word, key_part}
+use Rattle.dc_key_rules.proofs.KeyLemmas.{key_part-symbol}
 use Rattle.dc_station_rules.specs.Stations.{plain_word}
 use Rattle.dc_net_rules.specs.Nets.{IsNet}
 use Rattle.dc_net_rules.specs.Runs.{word_of_station, station_stream, station_word, history, rounds_of, all_rounds, IsAlike}
@@ -26,7 +27,7 @@ use Rattle.dc_twin_rules.proofs.Permuted.{inverse-below}
 use Rattle.dc_twin_rules.proofs.KeyedSums.{sum_by-mod_plus, all_range}
 use Rattle.dc_twin_rules.proofs.TreeEdges.{parent-at, length-parents, parent-neighbours, parents-apart, one-end, is_smaller_end, is_larger_end, pairs-apart}
 use Rattle.dc_twin_rules.proofs.Shifting.{gain, kept-u, kept-v}
-use Rattle.dc_twin_rules.proofs.KeyGains.{key_part-symbol, end-gain, balanced, parent-counts}
+use Rattle.dc_twin_rules.proofs.KeyGains.{end-gain, balanced, parent-counts}
 use Rattle.dc_twin_rules.proofs.PartSums.{second_fails, walk-honest, part-sum_zero}
 use Rattle.dc_twin_rules.proofs.Histories.{take-history, one-history, is-honest, moved-stream, demand-at, demand-word, demand-symbol, plain-below}
 use Rattle.dc_twin_rules.proofs.Changes.{below-symbol, changed, twin-pairs, sum-honest, sum-symbol, key-gains}
@@ -93,8 +94,6 @@ keys-meet_demand net p is alike admits t within i low honest l few =
     let low_u : All (λ (q : Pair). q.u < n) pairs = λ k e less. (let bound = (is.keys.are_pairs k e less).within in let up = (is.keys.are_pairs k e less).ends in omega arith) in
     let apart = pairs-apart net.keys is.keys in
     let gains = key-gains net p is h t l (length-history net t i) within few B (λ c. refl) in
-    let plus = end-gain (λ q. q.u) (λ q. q.v) f change X n i pairs (λ k e less. kept-u _ _) gains low_v apart in
-    let minus = end-gain (λ q. q.v) (λ q. q.u) f change Y n i pairs (λ k e less. kept-v _ _) gains low_u (λ j k e less inside same_v same_u. apart j k e less inside same_u same_v) in
     let smaller : ℕ → ℕ = λ w. cond (is_smaller_end pairs i w) (X i w) 0 in
     let larger : ℕ → ℕ = λ w. cond (is_larger_end pairs i w) (Y i w) 0 in
     let kid : ℕ → ℕ = λ w. cond (is_parent ps i w) (B w) 0 in
@@ -132,6 +131,8 @@ keys-meet_demand net p is alike admits t within i low honest l few =
     ∙ joined_mod (sum_by larger stations) (sum_by own stations) (B i) parent_counts in
     let old = key_part-symbol pairs i h l few in
     let new = key_part-symbol (map change pairs) i h l few in
+    let plus = end-gain (λ q. q.u) (λ q. q.v) f change X n i pairs (λ k e less. kept-u _ _) gains low_v apart in
+    let minus = end-gain (λ q. q.v) (λ q. q.u) f change Y n i pairs (λ k e less. kept-v _ _) gains low_u (λ j k e less inside same_v same_u. apart j k e less inside same_u same_v) in
     let closes = closing (sum_by f (filter (λ q. q.u == i) pairs)) (sum_by f (filter (λ q. q.u == i) (map change pairs))) (sum_by f (filter (λ q. q.v == i) pairs)) (sum_by f (filter
     (λ q. q.v == i) (map change pairs)))
     (sum_by smaller stations) (sum_by larger stations) (sum_by B (children ps i)) (B i) (slice_index (word_of_station d i) l) plus minus together needs in

@@ -35,8 +35,7 @@ abbrev pub TwinIsAlike : Type 0
 TwinIsAlike =
     (net : Net) (p : List ℕ) → IsNet net → IsAlike net → Admits net p → IsAlike (twin net p)
 
--- where all honest stations receive alike, the view of a twin and its run is that of its net:
--- nobody outside the honest parts can tell which station has which stream
+-- where all honest stations receive alike, the view of a twin and its run is that of its net
 abbrev pub TwinKeepsView : Type 0
 TwinKeepsView =
     (net : Net) (p : List ℕ) → IsNet net → IsAlike net → Admits net p

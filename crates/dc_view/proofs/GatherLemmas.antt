@@ -15,10 +15,12 @@ pub Gathers-nothing : (end : ℕ) (buffer : List ℕ) (s : SinkState) → end �
 Gathers-nothing end buffer s le = (le, record { front = []; parts = append-nil (take end buffer); put = Puts-nothing s })
 
 -- one text after another
-pub Gathers-then : (a b before x y : List ℕ) (s0 s1 s2 : SinkState) (end : ℕ) (r : Result ℕ Failed) → Gathers a before x s0 s1 (Ok end) → Gathers b (take end x) y s1 s2 r → Gathers (a ++ b) before y s0 s2 r
+pub Gathers-then : (a b before x y : List ℕ) (s0 s1 s2 : SinkState) (end : ℕ) (r : Result ℕ Failed) → Gathers a before x s0 s1 (Ok end) → Gathers b (take end x) y s1 s2 r
+    → Gathers (a ++ b) before y s0 s2 r
 Gathers-then a b before x y s0 s1 s2 end (Ok last) p q =
     let parts : before ++ (a ++ b) ≡ p.1.front ++ q.1.front ++ take last y =
-    sym (append_assoc before a b) ∙ ap (λ (t : List ℕ). t ++ b) p.1.parts ∙ append_assoc p.1.front (take end x) b ∙ ap (λ (t : List ℕ). p.1.front ++ t) q.1.parts ∙ sym (append_assoc p.1.front q.1.front (take last y)) in
+    sym (append_assoc before a b) ∙ ap (λ (t : List ℕ). t ++ b) p.1.parts ∙ append_assoc p.1.front (take end x) b ∙ ap (λ (t : List ℕ). p.1.front ++ t) q.1.parts ∙ sym
+    (append_assoc p.1.front q.1.front (take last y)) in
     (q.0, record { front = p.1.front ++ q.1.front; parts = parts; put = Puts-then p.1.front q.1.front s0 s1 s2 tt (Ok tt) p.1.put q.1.put })
 Gathers-then a b before x y s0 s1 s2 end (Err failed) p q =
     let parts : before ++ (a ++ b) ≡ p.1.front ++ (take end x ++ b) =

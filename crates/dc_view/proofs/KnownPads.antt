@@ -13,7 +13,8 @@ known-filtered coalition words [] = refl
 known-filtered coalition words (p ∷ ps) =
     let later = known-filtered coalition words ps in
     let kept = filter (λ (q : Pair). is_among coalition q.u || is_among coalition q.v) ps in
-    elim (is_among coalition p.u || is_among coalition p.v) as (λ b. cond b (pair_lines words p) [] ++ flat_map (known_lines coalition words) ps ≡ flat_map (pair_lines words) (cond b (p ∷ kept) kept)) [
+    elim (is_among coalition p.u || is_among coalition p.v) as
+    (λ b. cond b (pair_lines words p) [] ++ flat_map (known_lines coalition words) ps ≡ flat_map (pair_lines words) (cond b (p ∷ kept) kept)) [
       | true ↦ ap (λ (rest : List ℕ). pair_lines words p ++ rest) later
       | false ↦ later
     ]

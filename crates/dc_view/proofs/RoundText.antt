@@ -44,7 +44,8 @@ NumberedPut-then {X = X} f xs i d x whole s0 s1 s2 u low is p more =
     (at_drop_more (λ (ys : List X). flat_map f (enumerate_from i ys)) xs i d low ∙ ap (λ (y : X). f (i, y) ++ flat_map f (enumerate_from (i + 1) (drop (i + 1) xs))) (sym is)) p more
 
 -- a put of one more numbered item failed
-pub NumberedPut-stops : {X : Type 0} (f : ℕ × X → List ℕ) (xs : List X) (i : ℕ) (d x : X) (whole : List ℕ) (s0 s1 s2 : SinkState) (failed : Failed) (r : Result Unit Failed) → i < length xs → x ≡ get_or xs i d
+pub NumberedPut-stops : {X : Type 0} (f : ℕ × X → List ℕ) (xs : List X) (i : ℕ) (d x : X) (whole : List ℕ) (s0 s1 s2 : SinkState) (failed : Failed)
+    (r : Result Unit Failed) → i < length xs → x ≡ get_or xs i d
     → PutSoFar whole (flat_map f (enumerate_from i (drop i xs))) s0 s1 → Puts (f (i, x)) s1 s2 (Err failed) → IsErr r → Puts whole s0 s2 r
 NumberedPut-stops {X = X} f xs i d x whole s0 s1 s2 failed r low is p more err =
     PutSoFar-stops whole (flat_map f (enumerate_from i (drop i xs))) (f (i, x)) (flat_map f (enumerate_from (i + 1) (drop (i + 1) xs))) s0 s1 s2 failed r

@@ -1,5 +1,5 @@
-//! Text that is gathered in a buffer, which is put where the next piece does not fit. The place where
-//! the kept text ends is given.
+//! Text that is gathered in a buffer, which is put where the next piece does not fit. The place
+//! where the kept text ends is given.
 
 ghost use Rattle.std.specs.Prelude.{◌≡◌, ◌≤◌, ◌++◌, length, take, decimal};
 ghost use Rattle.std.specs.List.{flat_map};

@@ -19,8 +19,8 @@ use dc_station::{Log, Pending, Station};
 /// How many bytes are gathered before they are put.
 const ROOM: usize = 32768;
 
-/// Puts for each honest station of a net's run its number, its log, its sent entries and the numbers
-/// of pending ones. The form of the text is this project's own.
+/// Puts for each honest station of a net's run its number, its log, its sent entries and the
+/// numbers of pending ones. The form of the text is this project's own.
 pub fn put_logs<K: Sink>(net: &CheckedNet, run: &Played, out: &mut K) -> Result<(), Failed>
     requires { run.now ≡ run_of net.now }
     ensures { Puts (logs_text net.now run.now) (K.state out.old) (K.state out.new) result }
@@ -43,8 +43,8 @@ fn put_honest<K: Sink>(run: &Played, honest: &[u16], out: &mut K) -> Result<(), 
     out.put(&buffer[..end])
 }
 
-/// Puts the number of a station, its log, its sent entries and the numbers of pending ones. The form
-/// of the text is this project's own.
+/// Puts the number of a station, its log, its sent entries and the numbers of pending ones. The
+/// form of the text is this project's own.
 pub fn put_station<K: Sink>(i: u16, st: &Station, out: &mut K) -> Result<(), Failed>
     ensures { (stream : StreamValue) (total : ℕ) (words : List (List ℕ)) →
         StandsFor st.now stream total words →

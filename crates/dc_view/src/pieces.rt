@@ -1,4 +1,5 @@
-//! Many lines of one kind, filled into a buffer from a place on. The place after the lines is given.
+//! Many lines of one kind, filled into a buffer from a place on. The place after the lines is
+//! given.
 
 ghost use Rattle.std.specs.Prelude.{◌≡◌, ◌+◌, ◌*◌, ◌-◌, ◌≤◌, ◌<◌, ◌++◌, length, codes, decimal, filter, zip, take, All};
 ghost use Rattle.std.specs.List.{flat_map, enumerate_from, range_with_len};
@@ -57,7 +58,8 @@ pub(crate) fn fill_edges(buffer: &mut [u8], edges: &[(u16, u16)]) -> usize
 pub(crate) fn fill_members(buffer: &mut [u8], coalition: &Coalition, stations: u16) -> usize
     requires { LINE_BYTES * stations ≤ length buffer.old }
     ensures { Fills (flat_map (λ i. line (codes "member " ++ decimal i))
-        (filter (is_among coalition.now) (range_with_len 0 stations))) 0 buffer.old buffer.new result }
+        (filter (is_among coalition.now) (range_with_len 0 stations)))
+        0 buffer.old buffer.new result }
 {
     let mut end = 0;
     for i in 0..stations {

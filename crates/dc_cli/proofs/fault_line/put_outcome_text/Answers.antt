@@ -13,3 +13,9 @@ returns-in_err-put_named-in-Malformed g c = rw c.in-Malformed.is (Puts-stops _ _
 
 pub returns-in_ok-put_named-in-Malformed : goal.returns-in_ok-put_named-in-Malformed
 returns-in_ok-put_named-in-Malformed g c = rw c.in-Malformed.is (Puts-then _ _ _ _ _ _ _ c.in_ok-put_named-in-Malformed.ensures c.put_file_fault.ensures)
+
+pub returns-in_err-put-in-Disagree : goal.returns-in_err-put-in-Disagree
+returns-in_err-put-in-Disagree g c = rw c.in-Disagree.is (Puts-stops _ _ _ _ _ _ c.in_err-put-in-Disagree.ensures (search rules))
+
+pub returns-in_ok-put-in-Disagree : goal.returns-in_ok-put-in-Disagree
+returns-in_ok-put-in-Disagree g c = rw c.in-Disagree.is (Puts-then _ _ _ _ _ _ _ c.in_ok-put-in-Disagree.ensures c.put_net_fault.ensures)

@@ -8,11 +8,13 @@ use Rattle.dc_view.proofs.ListSteps.{get_or-enumerate}
 use Rattle.dc_view.proofs.logs.gather_honest.Goals as goal
 
 pub returns-in_err-end : goal.returns-in_err-end
-returns-in_err-end g c = Gathers-more-stops (λ h. honest_text c.args.run.now h.0 h.1) (enumerate_from 0 c.args.honest.now) c.loop-j.j (0, 0) _ _ _ _ _ _ _ _ _ (omega (arith, length-enumerate_from 0 c.args.honest.now)) c.loop-j.invariant
+returns-in_err-end g c = Gathers-more-stops (λ h. honest_text c.args.run.now h.0 h.1) (enumerate_from 0 c.args.honest.now) c.loop-j.j (0, 0) _ _ _ _ _ _ _ _ _
+    (omega (arith, length-enumerate_from 0 c.args.honest.now)) c.loop-j.invariant
     (rw (get_or-enumerate c.args.honest.now c.loop-j.j 0 c.loop-j-test.true) c.in_err-end.ensures) (search rules)
 
 pub loop-j-preserved : goal.loop-j-preserved
-loop-j-preserved g c = Gathers-more (λ h. honest_text c.args.run.now h.0 h.1) (enumerate_from 0 c.args.honest.now) c.loop-j.j (0, 0) _ _ _ _ _ _ _ (Ok c.in_ok-end.end) (omega (arith, length-enumerate_from 0 c.args.honest.now)) c.loop-j.invariant
+loop-j-preserved g c = Gathers-more (λ h. honest_text c.args.run.now h.0 h.1) (enumerate_from 0 c.args.honest.now) c.loop-j.j (0, 0) _ _ _ _ _ _ _ (Ok c.in_ok-end.end)
+    (omega (arith, length-enumerate_from 0 c.args.honest.now)) c.loop-j.invariant
     (rw (get_or-enumerate c.args.honest.now c.loop-j.j 0 c.loop-j-test.true) c.in_ok-end.ensures)
 
 pub returns : goal.returns

@@ -15,7 +15,8 @@ loop-i-preserved c = rw (filter-range_more (is_among c.args.coalition.now) c.loo
       | then-holds w ↦ record {
         place = omega (arith, w.fill_number_line-end.ensures.most, c.loop-i.invariant.place, w.end-is);
         filled = rw (w.if-holds.true, w.buffer-is, w.end-is)
-            (Fills-more (λ i. line (codes "member " ++ decimal i)) (filter (is_among c.args.coalition.now) (range_with_len 0 c.loop-i.i)) c.loop-i.i _ _ _ _ _ _ c.loop-i.invariant.filled w.fill_number_line-end.ensures.text);
+            (Fills-more (λ i. line (codes "member " ++ decimal i)) (filter (is_among c.args.coalition.now) (range_with_len 0 c.loop-i.i)) c.loop-i.i _ _ _ _ _ _
+            c.loop-i.invariant.filled w.fill_number_line-end.ensures.text);
       }
       | else-holds w ↦ record {
         place = omega (arith, c.loop-i.invariant.place, w.end-is);

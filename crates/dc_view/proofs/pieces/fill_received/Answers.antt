@@ -12,7 +12,8 @@ loop-j-preserved c = record {
   place = omega (arith, c.fill_station_line-end.ensures.most, c.loop-j.invariant.place);
   filled =
       rw (zip-more c.args.stations.now c.args.words.now c.loop-j.j 0 c.index-words-j.result (omega arith) (omega arith), ← c.index-words-j.is)
-      (Fills-more (λ g. station_word_line (codes "got ") g.0 g.1) (take c.loop-j.j (zip c.args.stations.now c.args.words.now)) (get_or c.args.stations.now c.loop-j.j 0, c.index-words-j.result) _ _ _ _ _ _
+      (Fills-more (λ g. station_word_line (codes "got ") g.0 g.1) (take c.loop-j.j (zip c.args.stations.now c.args.words.now))
+      (get_or c.args.stations.now c.loop-j.j 0, c.index-words-j.result) _ _ _ _ _ _
       c.loop-j.invariant.filled c.fill_station_line-end.ensures.text);
 }
 

@@ -1,0 +1,211 @@
+-- What follows from what `replay` did.
+use Rattle.std.proofs.Common.{◌≡◌, ◌≤◌, ◌⊎◌, ℕ, List, [], ◌∷◌, ◌++◌, length, All, Option, Result, Ok, Err, inl, inr, refl, sym, ap, ◌∙◌, subst, append-nil, append_assoc}
+use Rattle.std.proofs.lemmas.List.{map-append}
+use Rattle.dc_spec.specs.Outside.{ShelfState, SinkState, Holding, absent, held, Rose, Tells, grown}
+use Rattle.dc_spec.specs.Net.{Net}
+use Rattle.dc_edge.specs.Shelf.{Reads, IsHeldAbove, FailsUntold}
+use Rattle.dc_edge.specs.declared.fault.ShelfFault.{ShelfFault}
+use Rattle.dc_edge.specs.declared.fault.ShelfFault.TheVariants as causes
+use Rattle.dc_edge.proofs.PutLemmas.{grown-grown, Rose-earlier}
+use Rattle.dc_net_rules.specs.Runs.{run_of}
+use Rattle.dc_run_texts.specs.View.{view_text}
+use Rattle.dc_superpose.specs.declared.fault.TranscriptFault.{TranscriptFault}
+use Rattle.dc_net_files.specs.Steps.{File, Step, needs, makes, Reader, names_of, bytes_of}
+use Rattle.dc_net_files.specs.Parts.{net_step}
+use Rattle.dc_net_files.specs.Reading.{AreNeeded, Gave, Stops, Refuses, Ended}
+use Rattle.dc_net_files.specs.Settled.{AreHeld, Settles}
+use Rattle.dc_net_files.specs.declared.fault.NetFileFault.{NetFileFault}
+use Rattle.dc_net_files.specs.declared.fault.NetFileFault.TheVariants as files
+use Rattle.dc_net_files.specs.declared.fault.NotRead.{NotRead}
+use Rattle.dc_net_files.specs.declared.fault.NotRead.TheVariants as refusals
+use Rattle.dc_cli.specs.Replaying.{file_fault_of, outcome_of, ReadsNet, RefusesNet, ReplayRan, ViewPrinted}
+use Rattle.dc_cli.specs.declared.outcome.FileFault.{FileFault}
+use Rattle.dc_cli.specs.declared.outcome.FileFault.TheVariants.{Transcript}
+use Rattle.dc_cli.specs.declared.outcome.Outcome.{Outcome}
+use Rattle.dc_cli.specs.declared.outcome.Outcome.TheVariants.{Done, Usage, Missing, TooLong, Malformed, Disagree, ShelfFault as ShelfFailed, SinkFault, NoMemory}
+use Rattle.dc_cli.proofs.ShelfLemmas.{LastAsked}
+
+-- all files stay, whatever the answer
+Ended-kept : {A : Type 0} (reader : Reader A) (s s' : ShelfState) (r : Result A NotRead) → Ended reader s s' r → s'.holds ≡ s.holds
+Ended-kept reader s s' (Ok x) p = p.gave.kept
+Ended-kept reader s s' (Err (refusals.Missing name)) p = p.read.kept ∙ p.gave.kept
+Ended-kept reader s s' (Err (refusals.TooLong name)) p = p.read.kept ∙ p.gave.kept
+Ended-kept reader s s' (Err (refusals.Malformed name fault)) p = p.gave.kept
+Ended-kept reader s s' (Err (refusals.Disagree fault)) p = p.gave.kept
+Ended-kept reader s s' (Err refusals.ShelfFault) p = p.1.read.kept ∙ p.1.gave.kept
+Ended-kept reader s s' (Err refusals.NoMemory) p = p.1.kept
+
+-- the name that was needed and not given is the last that was asked for
+Stops-last : {A : Type 0} (reader : Reader A) (name : List ℕ) (cause : ShelfFault) (s s' : ShelfState) → (cause ≡ causes.NoMemory → ⊥)
+    → Stops reader name cause s s' → LastAsked name s s'
+Stops-last reader name causes.Missing s s' is p =
+    (names_of p.files, p.read.asked ∙ ap (λ (t : Option (List (List ℕ))). grown t (name ∷ [])) p.gave.asked ∙ grown-grown s.asked (names_of p.files) (name ∷ []))
+Stops-last reader name causes.TooLong s s' is p =
+    (names_of p.files, p.read.asked ∙ ap (λ (t : Option (List (List ℕ))). grown t (name ∷ [])) p.gave.asked ∙ grown-grown s.asked (names_of p.files) (name ∷ []))
+Stops-last reader name causes.Failed s s' is p =
+    (names_of p.files, p.read.asked ∙ ap (λ (t : Option (List (List ℕ))). grown t (name ∷ [])) p.gave.asked ∙ grown-grown s.asked (names_of p.files) (name ∷ []))
+Stops-last reader name causes.NoMemory s s' is p = absurd (is refl)
+
+-- the file that has a fault is the last that was asked for
+Refuses-last : {A : Type 0} (reader : Reader A) (name : List ℕ) (fault : NetFileFault) (s s' : ShelfState)
+    → Refuses reader name fault s s' → LastAsked name s s'
+Refuses-last reader name fault s s' p =
+    (names_of p.front,
+    p.gave.asked ∙ ap (λ (ns : List (List ℕ)). grown s.asked ns)
+      (map-append (λ (file : File). file.name) p.front (p.last ∷ []) ∙ ap (λ (n : List ℕ). names_of p.front ++ n ∷ []) p.named))
+
+-- a file that is missing is absent, or unknown where the count of faults rose
+Stops-missing : {A : Type 0} (reader : Reader A) (name : List ℕ) (s s' : ShelfState) → Stops reader name causes.Missing s s'
+    → (s.holds name ≡ absent) ⊎ FailsUntold (s.holds name) s.faults s'.faults
+Stops-missing reader name s s' p =
+    let same : p.middle.holds name ≡ s.holds name = ap (λ (hs : List ℕ → Holding). hs name) p.gave.kept in
+    elim p.read.answer [
+      | inl gone ↦ inl (sym same ∙ gone)
+      | inr fails ↦ inr (sym same ∙ fails.0, Rose-earlier s.faults p.middle.faults s'.faults p.gave.counted fails.1)
+    ]
+
+-- a file that is too long is longer than the limit within which it was needed, or unknown where the count rose
+Stops-long : {A : Type 0} (reader : Reader A) (name : List ℕ) (s s' : ShelfState) (p : Stops reader name causes.TooLong s s')
+    → IsHeldAbove (s.holds name) p.limit ⊎ FailsUntold (s.holds name) s.faults s'.faults
+Stops-long reader name s s' p =
+    let same : p.middle.holds name ≡ s.holds name = ap (λ (hs : List ℕ → Holding). hs name) p.gave.kept in
+    elim p.read.answer [
+      | inl above ↦ inl (above.0, sym same ∙ above.1, above.2)
+      | inr fails ↦ inr (sym same ∙ fails.0, Rose-earlier s.faults p.middle.faults s'.faults p.gave.counted fails.1)
+    ]
+
+Stops-rose : {A : Type 0} (reader : Reader A) (name : List ℕ) (s s' : ShelfState) → Stops reader name causes.Failed s s' → Rose s.faults s'.faults
+Stops-rose reader name s s' p = Rose-earlier s.faults p.middle.faults s'.faults p.gave.counted p.read.answer
+
+-- all files stay
+pub ReplayRan-kept : (name : List ℕ) (s s' : ShelfState) (o o' : SinkState) (outcome : Outcome) → ReplayRan name s s' o o' outcome → s'.holds ≡ s.holds
+ReplayRan-kept name s s' o o' Done p = Ended-kept (net_step name) s s' (Ok p.net) p.reads.read
+ReplayRan-kept name s s' o o' SinkFault p = Ended-kept (net_step name) s s' (Ok p.1.net) p.1.reads.read
+ReplayRan-kept name s s' o o' NoMemory p = Ended-kept (net_step name) s s' p.1.0 p.1.1.read
+ReplayRan-kept name s s' o o' _ p = Ended-kept (net_step name) s s' (Err p.1.refusal) p.1.reads.read
+
+-- no refusal is a command line that is not a form, or an end
+refusal_not : (refusal : NotRead) (place : ℕ) → Usage place ≡ outcome_of refusal → ⊥
+refusal_not (refusals.Missing name) place e = absurd cc
+refusal_not (refusals.TooLong name) place e = absurd cc
+refusal_not (refusals.Malformed name fault) place e = absurd cc
+refusal_not (refusals.Disagree fault) place e = absurd cc
+refusal_not refusals.ShelfFault place e = absurd cc
+refusal_not refusals.NoMemory place e = absurd cc
+
+pub ReplayRan-usage : (name : List ℕ) (s s' : ShelfState) (o o' : SinkState) (place : ℕ) → ReplayRan name s s' o o' (Usage place) → ⊥
+ReplayRan-usage name s s' o o' place p = refusal_not p.1.refusal place p.1.outcome_is
+
+-- a file that is told as missing was needed, and was not given
+missing_of : (name seen : List ℕ) (s s' : ShelfState) (refusal : NotRead) → Missing seen ≡ outcome_of refusal → ReadsNet name s s' (Err refusal)
+    → Stops (net_step name) seen causes.Missing s s'
+missing_of name seen s s' (refusals.Missing told) e p = let P : List ℕ → Type 0 = λ n. Stops (net_step name) n causes.Missing s s' in let same : told ≡ seen = cc in subst P same p.read
+missing_of name seen s s' (refusals.TooLong told) e p = absurd cc
+missing_of name seen s s' (refusals.Malformed told fault) e p = absurd cc
+missing_of name seen s s' (refusals.Disagree fault) e p = absurd cc
+missing_of name seen s s' refusals.ShelfFault e p = absurd cc
+missing_of name seen s s' refusals.NoMemory e p = absurd cc
+
+pub ReplayRan-missing : (name seen : List ℕ) (s s' : ShelfState) (o o' : SinkState) → ReplayRan name s s' o o' (Missing seen)
+    → (s.holds seen ≡ absent) ⊎ FailsUntold (s.holds seen) s.faults s'.faults
+ReplayRan-missing name seen s s' o o' p = Stops-missing (net_step name) seen s s' (missing_of name seen s s' p.1.refusal p.1.outcome_is p.1.reads)
+
+-- and so for a file that is told as too long
+pub long_of : (name seen : List ℕ) (s s' : ShelfState) (refusal : NotRead) → TooLong seen ≡ outcome_of refusal → ReadsNet name s s' (Err refusal)
+    → Stops (net_step name) seen causes.TooLong s s'
+long_of name seen s s' (refusals.TooLong told) e p = let P : List ℕ → Type 0 = λ n. Stops (net_step name) n causes.TooLong s s' in let same : told ≡ seen = cc in subst P same p.read
+long_of name seen s s' (refusals.Missing told) e p = absurd cc
+long_of name seen s s' (refusals.Malformed told fault) e p = absurd cc
+long_of name seen s s' (refusals.Disagree fault) e p = absurd cc
+long_of name seen s s' refusals.ShelfFault e p = absurd cc
+long_of name seen s s' refusals.NoMemory e p = absurd cc
+
+-- a reported fault is that of the last file
+fault_last : (name seen : List ℕ) (fault : FileFault) (s s' : ShelfState) (refusal : NotRead) → Malformed seen fault ≡ outcome_of refusal → ReadsNet name s s' (Err refusal)
+    → LastAsked seen s s'
+fault_last name seen fault s s' (refusals.Malformed told found) e p =
+    let P : List ℕ → Type 0 = λ n. LastAsked n s s' in let same : told ≡ seen = cc in subst P same (Refuses-last (net_step name) told found s s' p.read)
+fault_last name seen fault s s' (refusals.Missing told) e p = absurd cc
+fault_last name seen fault s s' (refusals.TooLong told) e p = absurd cc
+fault_last name seen fault s s' (refusals.Disagree found) e p = absurd cc
+fault_last name seen fault s s' refusals.ShelfFault e p = absurd cc
+fault_last name seen fault s s' refusals.NoMemory e p = absurd cc
+
+pub ReplayRan-last_missing : (name seen : List ℕ) (s s' : ShelfState) (o o' : SinkState) → ReplayRan name s s' o o' (Missing seen) → LastAsked seen s s'
+ReplayRan-last_missing name seen s s' o o' p =
+    Stops-last (net_step name) seen causes.Missing s s' (λ e. absurd cc) (missing_of name seen s s' p.1.refusal p.1.outcome_is p.1.reads)
+
+pub ReplayRan-last_long : (name seen : List ℕ) (s s' : ShelfState) (o o' : SinkState) → ReplayRan name s s' o o' (TooLong seen) → LastAsked seen s s'
+ReplayRan-last_long name seen s s' o o' p =
+    Stops-last (net_step name) seen causes.TooLong s s' (λ e. absurd cc) (long_of name seen s s' p.1.refusal p.1.outcome_is p.1.reads)
+
+pub ReplayRan-last_fault : (name seen : List ℕ) (fault : FileFault) (s s' : ShelfState) (o o' : SinkState) → ReplayRan name s s' o o' (Malformed seen fault) → LastAsked seen s s'
+ReplayRan-last_fault name seen fault s s' o o' p = fault_last name seen fault s s' p.1.refusal p.1.outcome_is p.1.reads
+
+-- the shelf's fault and the output's fault have their causes
+rose_of : (name : List ℕ) (s s' : ShelfState) (refusal : NotRead) → ShelfFailed ≡ outcome_of refusal → ReadsNet name s s' (Err refusal) → Rose s.faults s'.faults
+rose_of name s s' refusals.ShelfFault e p = Stops-rose (net_step name) p.read.0 s s' p.read.1
+rose_of name s s' (refusals.Missing told) e p = absurd cc
+rose_of name s s' (refusals.TooLong told) e p = absurd cc
+rose_of name s s' (refusals.Malformed told fault) e p = absurd cc
+rose_of name s s' (refusals.Disagree fault) e p = absurd cc
+rose_of name s s' refusals.NoMemory e p = absurd cc
+
+pub ReplayRan-shelf_rose : (name : List ℕ) (s s' : ShelfState) (o o' : SinkState) → ReplayRan name s s' o o' ShelfFailed → Rose s.faults s'.faults
+ReplayRan-shelf_rose name s s' o o' p = rose_of name s s' p.1.refusal p.1.outcome_is p.1.reads
+
+pub ReplayRan-sink_rose : (name : List ℕ) (s s' : ShelfState) (o o' : SinkState) → ReplayRan name s s' o o' SinkFault → Rose o.faults o'.faults
+ReplayRan-sink_rose name s s' o o' p = p.1.put.answer.1
+
+-- no file of a net is a transcript
+no_transcript : (fault : TranscriptFault) (found : NetFileFault) → Transcript fault ≡ file_fault_of found → ⊥
+no_transcript fault (files.Manifest found) e = absurd cc
+no_transcript fault (files.Keys found) e = absurd cc
+no_transcript fault (files.Stream found) e = absurd cc
+no_transcript fault (files.Script found) e = absurd cc
+
+-- where neither all was done nor the output failed, nothing was printed
+pub ReplayRan-silent : (name : List ℕ) (s s' : ShelfState) (o o' : SinkState) (outcome : Outcome) → (outcome ≡ Done → ⊥) → (outcome ≡ SinkFault → ⊥)
+    → ReplayRan name s s' o o' outcome → o' ≡ o
+ReplayRan-silent name s s' o o' Done not_done not_sink p = absurd (not_done refl)
+ReplayRan-silent name s s' o o' SinkFault not_done not_sink p = absurd (not_sink refl)
+ReplayRan-silent name s s' o o' NoMemory not_done not_sink p = p.0
+ReplayRan-silent name s s' o o' _ not_done not_sink p = p.0
+
+-- what was printed where all was done
+pub ReplayRan-prints : (name : List ℕ) (s s' : ShelfState) (o o' : SinkState) → ReplayRan name s s' o o' Done → ViewPrinted name s s' o o'
+ReplayRan-prints name s s' o o' p = record {
+  files = p.reads.read.files;
+  needed = p.reads.read.gave.needed;
+  told = p.reads.read.gave.bytes;
+  net = p.net;
+  made = ap (net_step name) (sym (append-nil (bytes_of p.reads.read.files))) ∙ p.reads.read.goes_on [];
+  asked = p.reads.read.gave.asked;
+  written = p.put.answer;
+}
+
+settles_made : (net : Net) (left : List (List ℕ)) (step : Step Net) (refusal : NotRead) → step ≡ makes net left → Settles step (Err refusal) → refusal ≡ refusals.NoMemory
+settles_made net left step refusal e p = let P : Step Net → Type 0 = λ x. Settles x (Err refusal) in settled net left refusal (subst P e p)
+  where
+    settled : (net : Net) (left : List (List ℕ)) (refusal : NotRead) → Settles (makes net left) (Err refusal) → refusal ≡ refusals.NoMemory
+    settled net left refusals.NoMemory p = refl
+    settled net left (refusals.Missing told) p = absurd p
+    settled net left (refusals.TooLong told) p = absurd p
+    settled net left (refusals.Malformed told fault) p = absurd p
+    settled net left (refusals.Disagree fault) p = absurd p
+    settled net left refusals.ShelfFault p = absurd p
+
+refuses_not : (name : List ℕ) (s s' : ShelfState) (outcome : Outcome) (files : List File) (net : Net) → AreNeeded (net_step name) files → AreHeld s.holds files
+    → net_step name (bytes_of files) ≡ makes net [] → (Rose s.faults s'.faults → ⊥) → RefusesNet name s s' outcome → outcome ≡ NoMemory
+refuses_not name s s' outcome files net needed holds made calm p =
+    p.outcome_is ∙ ap outcome_of (settles_made net [] (net_step name (bytes_of files)) p.refusal made (p.reads.settled files needed holds calm))
+
+-- where the files are held and make a net, all is done, or memory ran out
+pub ReplayRan-completes : (name : List ℕ) (s s' : ShelfState) (o o' : SinkState) (outcome : Outcome) (files : List File) (net : Net)
+    → AreNeeded (net_step name) files → AreHeld s.holds files → net_step name (bytes_of files) ≡ makes net []
+    → (Rose s.faults s'.faults → ⊥) → (Rose o.faults o'.faults → ⊥) → ReplayRan name s s' o o' outcome → (outcome ≡ Done) ⊎ (outcome ≡ NoMemory)
+ReplayRan-completes name s s' o o' Done files net needed holds made calm_shelf calm_sink p = inl refl
+ReplayRan-completes name s s' o o' SinkFault files net needed holds made calm_shelf calm_sink p = absurd (calm_sink p.1.put.answer.1)
+ReplayRan-completes name s s' o o' NoMemory files net needed holds made calm_shelf calm_sink p = inr refl
+ReplayRan-completes name s s' o o' other files net needed holds made calm_shelf calm_sink p =
+    inr (refuses_not name s s' other files net needed holds made calm_shelf p.1)

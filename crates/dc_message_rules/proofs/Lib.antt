@@ -1,0 +1,4 @@
+pub mod Deliveries
+pub mod PlainSums
+pub mod Tallies
+pub mod SentGroups

@@ -1,0 +1,26 @@
+-- Laws of messages: what holds of a net without a coalition.
+use Rattle.std.specs.Prelude.{ℕ, ◌<◌, ◌≤◌, ◌≡◌, [], take, slice_index_or}
+use Rattle.dc_spec.specs.Net.{Net}
+use Rattle.dc_station_rules.specs.Stations.{log_of}
+use Rattle.dc_net_rules.specs.Nets.{IsNet}
+use Rattle.dc_net_rules.specs.Runs.{history, rounds_of, run_of}
+use Rattle.dc_message_rules.specs.PlainSums.{plain_sum}
+
+-- what a station received in the first rounds is the sums of these rounds
+abbrev pub HistoriesAreSums : Type 0
+HistoriesAreSums =
+    (net : Net) → IsNet net → net.coalition ≡ [] → (t : ℕ) → t ≤ net.words
+    → (i : ℕ) → i < net.stations → history (rounds_of net t) i ≡ take t (run_of net).sums
+
+-- the sum of a round is the sum of all plain words, each over the sums of the rounds before
+abbrev pub SumsArePlain : Type 0
+SumsArePlain =
+    (net : Net) → IsNet net → net.coalition ≡ [] → (t : ℕ) → t < net.words
+    → slice_index_or (run_of net).sums t [] ≡ plain_sum net (take t (run_of net).sums)
+
+-- after each round all stations have one log
+abbrev pub LogsAgree : Type 0
+LogsAgree =
+    (net : Net) → IsNet net → net.coalition ≡ [] → (t : ℕ) → t ≤ net.words
+    → (i j : ℕ) → i < net.stations → j < net.stations
+    → log_of (history (rounds_of net t) i) ≡ log_of (history (rounds_of net t) j)

@@ -1,0 +1,3 @@
+pub mod PlainSums
+pub mod Tallies
+pub mod Laws

@@ -1,0 +1,18 @@
+//! Laws of messages. The functions do nothing; each one's contract is a law.
+
+ghost use Rattle.dc_message_rules.specs.Laws.{HistoriesAreSums, SumsArePlain, LogsAgree};
+
+/// Without a coalition each station receives the sums of the rounds.
+pub fn histories_are_sums()
+    ensures { HistoriesAreSums }
+{}
+
+/// Without a coalition the sum of a round is the sum of all plain words: the keys cancel.
+pub fn sums_are_plain()
+    ensures { SumsArePlain }
+{}
+
+/// Without a coalition all stations have one log after each round.
+pub fn logs_agree()
+    ensures { LogsAgree }
+{}

@@ -1,0 +1,6 @@
+//! The law of messages as definitions: what all stations of a net without a coalition send and receive.
+#![tactic(auto)]
+
+mod laws;
+
+pub use laws::{histories_are_sums, logs_agree, sums_are_plain};
