@@ -13,5 +13,6 @@ pub mod Keygen
 pub mod KeygenSeeds
 pub mod Migrating
 pub mod Replaying
+pub mod Trials
 pub mod Ran
 pub mod Promises

@@ -15,6 +15,7 @@ mod reading;
 mod replaying;
 mod summing;
 mod top;
+mod trial;
 mod writing;
 
 pub use fault_line::put_fault;
