@@ -1,7 +1,7 @@
 pub mod CommandLemmas
-pub mod RanLemmas
 pub mod ShelfLemmas
 pub mod MakingLemmas
 pub mod ReplayLemmas
+pub mod RanLemmas
 pub mod PromiseLemmas
 mod Rows

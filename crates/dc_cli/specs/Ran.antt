@@ -5,9 +5,10 @@ use Rattle.dc_edge.specs.Sink.{Puts}
 use Rattle.dc_edge.specs.declared.fault.Failed.{Failed}
 use Rattle.dc_cli.specs.Lines.{fault_line}
 use Rattle.dc_cli.specs.Forms.{is_form, longest_begun}
-use Rattle.dc_cli.specs.Commands.{Task, sum, keygen, Spells}
+use Rattle.dc_cli.specs.Commands.{Task, sum, keygen, replay, Spells}
 use Rattle.dc_cli.specs.Summing.{SumRan}
 use Rattle.dc_cli.specs.Keygen.{KeygenRan}
+use Rattle.dc_cli.specs.Replaying.{ReplayRan}
 use Rattle.dc_cli.specs.declared.outcome.Outcome.{Outcome}
 use Rattle.dc_cli.specs.declared.outcome.Outcome.TheVariants.{Usage}
 
@@ -22,6 +23,7 @@ pub record RefusedWords (words : List (List ℕ)) (place : ℕ) (shelf shelf' : 
 abbrev pub CommandRan : Task → ShelfState → ShelfState → SinkState → SinkState → Outcome → Type 0
 CommandRan (sum file) shelf shelf' out out' outcome = SumRan file shelf shelf' out out' outcome
 CommandRan (keygen seed net target) shelf shelf' out out' outcome = (out' ≡ out) × KeygenRan seed net target shelf shelf' outcome
+CommandRan (replay net workers) shelf shelf' out out' outcome = ReplayRan net shelf shelf' out out' outcome
 
 -- the command that the words spell, and what it did
 pub record RanCommand (words : List (List ℕ)) (shelf shelf' : ShelfState) (out out' : SinkState) (outcome : Outcome) : Type 0 where

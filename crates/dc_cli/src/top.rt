@@ -1,14 +1,15 @@
 //! The top call.
 
 ghost use Rattle.dc_cli.specs.Forms.{texts};
-ghost use Rattle.dc_cli.specs.Commands.{task_of};
-ghost use Rattle.dc_cli.specs.Promises.{call, RefusesOtherWords, PrintsSums, Completes, AsksInOrder, TellsTheLast, KeepsFiles, PrintsOnlyWhenDone, MissesTheAbsent, RefusesTheLong, RefusesTheMalformed, TellsTheFault, HasCauses, WritesKeys, RunsKeygen};
+ghost use Rattle.dc_cli.specs.Commands.{IsRunnable, task_of};
+ghost use Rattle.dc_cli.specs.Promises.{call, RefusesOtherWords, PrintsSums, Completes, AsksInOrder, TellsTheLast, KeepsFiles, PrintsOnlyWhenDone, MissesTheAbsent, RefusesTheLong, RefusesTheMalformed, TellsTheFault, HasCauses, WritesKeys, RunsKeygen, PrintsView, RunsNets};
 ghost use Rattle.dc_cli.specs.Ran.{Ran, CommandRan, PutsLine};
 
 use crate::command::{Command, command_of};
 use crate::fault_line::put_fault;
 use crate::keygen::run_keygen;
 use crate::outcome::Outcome;
+use crate::replaying::run_replay;
 use crate::summing::run_sum;
 use dc_edge::{Gate, Shelf, Sink};
 use std::alloc::Global;
@@ -54,36 +55,53 @@ pub fn dcnet<R: Threads + Sync, F: Shelf, K: Sink, E: Sink, G: Gate + Sync>(
         (call F.state K.state words.now shelf.old shelf.new out.old out.new result) }
     ensures keys { WritesKeys
         (call F.state K.state words.now shelf.old shelf.new out.old out.new result) }
+    ensures view { PrintsView
+        (call F.state K.state words.now shelf.old shelf.new out.old out.new result) }
+    ensures nets { RunsNets
+        (call F.state K.state words.now shelf.old shelf.new out.old out.new result) }
     ensures keygen { RunsKeygen
         (call F.state K.state words.now shelf.old shelf.new out.old out.new result) }
 {
-    let outcome = run(alloc, words, shelf, out);
+    let outcome = run(rt, alloc, words, shelf, out, gate);
     let _ = put_fault(&outcome, err);
     outcome
 }
 
 /// Runs the command that the words spell.
-fn run<F: Shelf, K: Sink>(alloc: Global, words: &[String], shelf: &mut F, out: &mut K) -> Outcome
+fn run<R: Threads + Sync, F: Shelf, K: Sink, G: Gate + Sync>(
+    rt: &R,
+    alloc: Global,
+    words: &[String],
+    shelf: &mut F,
+    out: &mut K,
+    gate: &G,
+) -> Outcome
     ensures { Ran (texts words.now) (F.state shelf.old) (F.state shelf.new)
         (K.state out.old) (K.state out.new) result }
 {
     match command_of(words) {
         Err(place) => Outcome::Usage { place },
-        Ok(command) => run_command(alloc, command, shelf, out),
+        Ok(command) => run_command(rt, alloc, command, shelf, out, gate),
     }
 }
 
-fn run_command<F: Shelf, K: Sink>(
+fn run_command<R: Threads + Sync, F: Shelf, K: Sink, G: Gate + Sync>(
+    rt: &R,
     alloc: Global,
     command: Command<'_>,
     shelf: &mut F,
     out: &mut K,
+    gate: &G,
 ) -> Outcome
+    requires { IsRunnable (task_of command) }
     ensures { CommandRan (task_of command.entry) (F.state shelf.old) (F.state shelf.new)
         (K.state out.old) (K.state out.new) result }
 {
     match command {
         Command::Sum { file } => run_sum(alloc, file, shelf, out),
         Command::Keygen { seed, net, target } => run_keygen(alloc, &seed, net, target, shelf),
+        Command::Replay { net, workers } => {
+            run_replay(rt, alloc, net, workers, shelf, out, gate)
+        }
     }
 }

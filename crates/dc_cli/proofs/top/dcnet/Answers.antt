@@ -1,4 +1,4 @@
-use Rattle.dc_cli.proofs.PromiseLemmas.{RefusesOtherWords-run, PrintsSums-run, Completes-run, AsksInOrder-run, KeepsFiles-run, PrintsOnlyWhenDone-run, MissesTheAbsent-run, RefusesTheLong-run, RefusesTheMalformed-run, TellsTheFault-run, TellsTheLast-run, HasCauses-run, WritesKeys-run, RunsKeygen-run}
+use Rattle.dc_cli.proofs.PromiseLemmas.{RefusesOtherWords-run, PrintsSums-run, Completes-run, AsksInOrder-run, KeepsFiles-run, PrintsOnlyWhenDone-run, MissesTheAbsent-run, RefusesTheLong-run, RefusesTheMalformed-run, TellsTheFault-run, TellsTheLast-run, HasCauses-run, WritesKeys-run, RunsKeygen-run, PrintsView-run, RunsNets-run}
 use Rattle.dc_cli.proofs.top.dcnet.Goals as goal
 
 pub returns-clause-words : goal.returns-clause-words
@@ -42,3 +42,9 @@ returns-clause-keys g c = WritesKeys-run _ c.run-outcome.ensures
 
 pub returns-clause-keygen : goal.returns-clause-keygen
 returns-clause-keygen g c = RunsKeygen-run _ c.run-outcome.ensures
+
+pub returns-clause-view : goal.returns-clause-view
+returns-clause-view g c = PrintsView-run _ c.run-outcome.ensures
+
+pub returns-clause-nets : goal.returns-clause-nets
+returns-clause-nets g c = RunsNets-run _ c.run-outcome.ensures
