@@ -49,7 +49,6 @@ Spells-form words (keygen seed net target) p =
     let net_named : is_name net ≡ true = name_is (is_name net) rest.net_is in
     let target_named : is_name target ≡ true = name_is (is_name target) rest.target_is in
     rw (p.1, rest.words_are, rest.seed_is, net_named, target_named) refl
-
 Spells-form words (replay net workers) p =
     let q = p.2 in
     replay_form words net workers q.rest p.1 q.words_are (name_is (is_name net) q.net_is) q.workers_are
@@ -164,7 +163,6 @@ ran_of words command s s' o o' other p ran =
 CommandRan-leaves : (command : Task) (s s' : ShelfState) (o o' : SinkState) (outcome : Outcome) → CommandRan command s s' o o' outcome → Leaves command outcome s s'
 CommandRan-leaves (sum file) s s' o o' outcome ran = SumRan-kept file s s' o o' outcome ran
 CommandRan-leaves (keygen seed net target) s s' o o' outcome ran = MakesOf-leaves (keygen_making seed net target) s s' outcome ran.1
-
 CommandRan-leaves (replay net workers) s s' o o' outcome ran = ReplayRan-kept net s s' o o' outcome ran
 
 kept_unread : (words : List (List ℕ)) (s s' : ShelfState) (o o' : SinkState) (outcome : Outcome) → is_form words ≡ false → Ran words s s' o o' outcome → s'.holds ≡ s.holds
@@ -200,7 +198,6 @@ SumRan-silent file s s' o o' other not_done not_sink p = p.0
 CommandRan-silent : (command : Task) (s s' : ShelfState) (o o' : SinkState) (outcome : Outcome) → (outcome ≡ Done → ⊥) → (outcome ≡ SinkFault → ⊥) → CommandRan command s s' o o' outcome → o' ≡ o
 CommandRan-silent (sum file) s s' o o' outcome not_done not_sink p = SumRan-silent file s s' o o' outcome not_done not_sink p
 CommandRan-silent (keygen seed net target) s s' o o' outcome not_done not_sink p = p.0
-
 CommandRan-silent (replay net workers) s s' o o' outcome not_done not_sink p = ReplayRan-silent net s s' o o' outcome not_done not_sink p
 
 silent : (words : List (List ℕ)) (s s' : ShelfState) (o o' : SinkState) (outcome : Outcome) → (outcome ≡ Done → ⊥) → (outcome ≡ SinkFault → ⊥) → Ran words s s' o o' outcome → o' ≡ o
@@ -222,7 +219,6 @@ missing_cause : (command : Task) (s s' : ShelfState) (o o' : SinkState) (name : 
     → (s.holds name ≡ absent) ⊎ FailsUntold (s.holds name) s.faults s'.faults
 missing_cause (sum file) s s' o o' name ran = rw ran.1.0 ran.1.1.answer
 missing_cause (keygen seed net target) s s' o o' name ran = MakesOf-missing (keygen_making seed net target) s s' name ran.1
-
 missing_cause (replay net workers) s s' o o' name ran = ReplayRan-missing net name s s' o o' ran
 
 missing : (words : List (List ℕ)) (s s' : ShelfState) (o o' : SinkState) (outcome : Outcome) (name : List ℕ) → outcome ≡ Missing name → Ran words s s' o o' outcome
@@ -236,7 +232,6 @@ long_cause : (command : Task) (s s' : ShelfState) (o o' : SinkState) (name : Lis
     → (limit : ℕ) × HasLimit s command name limit × (IsHeldAbove (s.holds name) limit ⊎ FailsUntold (s.holds name) s.faults s'.faults)
 long_cause (sum file) s s' o o' name ran = (transcript_limit, (ran.1.0, refl), rw ran.1.0 ran.1.1.answer)
 long_cause (keygen seed net target) s s' o o' name ran = (manifest_limit, (ran.1.0, refl), MakesOf-long (keygen_making seed net target) s s' name ran.1)
-
 long_cause (replay net workers) s s' o o' name ran = ReplayRan-long net name s s' o o' ran
 
 too_long : (command : Task) (s s' : ShelfState) (o o' : SinkState) (outcome : Outcome) (name : List ℕ) → outcome ≡ TooLong name → CommandRan command s s' o o' outcome
@@ -256,7 +251,6 @@ fault_cause (sum file) s s' o o' name bytes fault told ran =
     let P : List ℕ → Type 0 = λ b. Refused b fault in
     subst P same ran.1.1.holds
 fault_cause (keygen seed net target) s s' o o' name bytes fault told ran = absurd (no_transcript_fault seed (manifest_of ran.1.1.bytes) fault ran.1.1.holds)
-
 fault_cause (replay net workers) s s' o o' name bytes fault told ran = absurd (ReplayRan-transcript net name fault s s' o o' ran)
 
 malformed : (words : List (List ℕ)) (s s' : ShelfState) (o o' : SinkState) (outcome : Outcome) (name bytes : List ℕ) (fault : TranscriptFault)
@@ -287,7 +281,6 @@ SumRan-last file s s' o o' outcome name tells p =
 CommandRan-last : (command : Task) (s s' : ShelfState) (o o' : SinkState) (outcome : Outcome) (name : List ℕ) → TellsName outcome name → CommandRan command s s' o o' outcome → LastAsked name s s'
 CommandRan-last (sum file) s s' o o' outcome name tells p = SumRan-last file s s' o o' outcome name tells p
 CommandRan-last (keygen seed net target) s s' o o' outcome name tells p = MakesOf-last (keygen_making seed net target) s s' outcome name tells p.1
-
 CommandRan-last (replay net workers) s s' o o' outcome name tells p = ReplayRan-last net s s' o o' outcome name tells p
 
 last_asked : (words : List (List ℕ)) (s s' : ShelfState) (o o' : SinkState) (outcome : Outcome) (name : List ℕ) → TellsName outcome name → Ran words s s' o o' outcome → LastAsked name s s'
@@ -297,13 +290,11 @@ last_asked words s s' o o' other name tells ran = CommandRan-last ran.command s 
 shelf_rose : (command : Task) (s s' : ShelfState) (o o' : SinkState) → CommandRan command s s' o o' ShelfFault → Rose s.faults s'.faults
 shelf_rose (sum file) s s' o o' ran = ran.1.answer
 shelf_rose (keygen seed net target) s s' o o' ran = MakesOf-rose (keygen_making seed net target) s s' ran.1
-
 shelf_rose (replay net workers) s s' o o' ran = ReplayRan-shelf_rose net s s' o o' ran
 
 sink_rose : (command : Task) (s s' : ShelfState) (o o' : SinkState) → CommandRan command s s' o o' SinkFault → Rose o.faults o'.faults
 sink_rose (sum file) s s' o o' ran = ran.1.put.answer.1
 sink_rose (keygen seed net target) s s' o o' ran = absurd ran.1
-
 sink_rose (replay net workers) s s' o o' ran = ReplayRan-sink_rose net s s' o o' ran
 
 shelf_cause : (words : List (List ℕ)) (s s' : ShelfState) (o o' : SinkState) (outcome : Outcome) → outcome ≡ ShelfFault → Ran words s s' o o' outcome → Rose s.faults s'.faults

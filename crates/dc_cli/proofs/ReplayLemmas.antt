@@ -50,10 +50,11 @@ Stops-last reader name causes.NoMemory s s' is p = absurd (is refl)
 -- the file that has a fault is the last that was asked for
 Refuses-last : {A : Type 0} (reader : Reader A) (name : List ℕ) (fault : NetFileFault) (s s' : ShelfState)
     → Refuses reader name fault s s' → LastAsked name s s'
-Refuses-last reader name fault s s' p =
-    (names_of p.front,
-    p.gave.asked ∙ ap (λ (ns : List (List ℕ)). grown s.asked ns)
-      (map-append (λ (file : File). file.name) p.front (p.last ∷ []) ∙ ap (λ (n : List ℕ). names_of p.front ++ n ∷ []) p.named))
+Refuses-last reader name fault s s' p = (
+  names_of p.front,
+  p.gave.asked ∙ ap (λ (ns : List (List ℕ)). grown s.asked ns)
+      (map-append (λ (file : File). file.name) p.front (p.last ∷ []) ∙ ap (λ (n : List ℕ). names_of p.front ++ n ∷ []) p.named),
+)
 
 -- a file that is missing is absent, or unknown where the count of faults rose
 Stops-missing : {A : Type 0} (reader : Reader A) (name : List ℕ) (s s' : ShelfState) → Stops reader name causes.Missing s s'

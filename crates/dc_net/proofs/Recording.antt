@@ -78,7 +78,7 @@ row_is net (each dealt) words sum honest =
     ext_get_or zero_word (rule_words dealt words net.stations) (map (word_by_rule dealt words net.stations) (honest_stations net))
     (length-map dealt _ ∙ long ∙ sym (length-map (honest_stations net) (word_by_rule dealt words net.stations)))
     (λ k within. (let low : k < length (honest_stations net) = let all = length-map dealt (λ said. Rattle.dc_spec.specs.Scripts.rule_word said words net.stations) in omega arith in
-        are k low ∙ sym (get_or-map (word_by_rule dealt words net.stations) (honest_stations net) k 0 zero_word low)))
+    are k low ∙ sym (get_or-map (word_by_rule dealt words net.stations) (honest_stations net) k 0 zero_word low)))
 
 -- that is the row of the round after those played
 row_of_round : (net : Net) (played : List Round) → map (heard net (script_turn net (length played)).delivery (published played ++ next_words net played) (next_round net played).sum) (honest_stations net) ≡ heard_row net (next_round net played)

@@ -20,9 +20,9 @@ of_stations net played g f d same =
     let count = length-seats net played in
     ext_get_or d (map g (seats_after net played)) (map f (honest_stations net)) (length-map (seats_after net played) g ∙ count ∙ sym (length-map (honest_stations net) f))
     (λ k within. (let low : k < length (honest_stations net) = let long = length-map (seats_after net played) g in omega arith in
-        get_or-map g (seats_after net played) k (seat_at net played k) d (omega arith)
-        ∙ ap g (get_or-map-range_with_len (seat_at net played) 0 (length (honest_stations net)) k k (seat_at net played k) low (omega arith))
-        ∙ same k ∙ sym (get_or-map f (honest_stations net) k 0 d low)))
+    get_or-map g (seats_after net played) k (seat_at net played k) d (omega arith)
+    ∙ ap g (get_or-map-range_with_len (seat_at net played) 0 (length (honest_stations net)) k k (seat_at net played k) low (omega arith))
+    ∙ same k ∙ sym (get_or-map f (honest_stations net) k 0 d low)))
 
 -- a run of these parts
 pub same_run : (w words s sums d delivered : List (List ℕ)) (l logs n sents : List (List Entry)) (p pending : List (ℕ × ℕ)) → w ≡ words → s ≡ sums → d ≡ delivered → l ≡ logs → n ≡ sents → p ≡ pending

@@ -60,13 +60,13 @@ hears_next net t j checked low place =
       session = omega arith;
       count = all ∙ (let e : (t + 1) * length (honest_stations net) ≡ t * length (honest_stations net) + length (honest_stations net) = omega arith in e) ∙ ap (λ (m : ℕ). m * length (honest_stations net) + length (honest_stations net)) (sym long);
       before = λ k less.
-      let early : k < length (rounds_of net t) = omega arith in
-      let next = next_round net (rounds_of net t) in
-      get_or-map (λ (round : Round). word_of_station round.received (get_or (honest_stations net) j 0)) (rounds_of net t) k (next_round net (rounds_of net t)) zero_word early
-      ∙ sym (delivered_at net (rounds_of net t) k j (next_round net (rounds_of net t)) early place)
-      ∙ sym (ap (λ (ws : List (List ℕ)). get_or ws (k * length (honest_stations net) + j) zero_word) (pieces_more (heard_row net) (rounds_of net t) (next_round net (rounds_of net t)))
-      ∙ get_or_front (flat_map (heard_row net) (rounds_of net t)) (heard_row net (next_round net (rounds_of net t))) (k * length (honest_stations net) + j)
-      (let size = length-delivered net (rounds_of net t) in let fits = mul-le-mul_right {m = k + 1} {n = length (rounds_of net t)} (length (honest_stations net)) (omega arith) in omega arith));
+          let early : k < length (rounds_of net t) = omega arith in
+          let next = next_round net (rounds_of net t) in
+          get_or-map (λ (round : Round). word_of_station round.received (get_or (honest_stations net) j 0)) (rounds_of net t) k (next_round net (rounds_of net t)) zero_word early
+          ∙ sym (delivered_at net (rounds_of net t) k j (next_round net (rounds_of net t)) early place)
+          ∙ sym (ap (λ (ws : List (List ℕ)). get_or ws (k * length (honest_stations net) + j) zero_word) (pieces_more (heard_row net) (rounds_of net t) (next_round net (rounds_of net t)))
+          ∙ get_or_front (flat_map (heard_row net) (rounds_of net t)) (heard_row net (next_round net (rounds_of net t))) (k * length (honest_stations net) + j)
+          (let size = length-delivered net (rounds_of net t) in let fits = mul-le-mul_right {m = k + 1} {n = length (rounds_of net t)} (length (honest_stations net)) (omega arith) in omega arith));
     }
   where
     get_or_front : (xs ys : List (List ℕ)) (m : ℕ) → m < length xs → get_or (xs ++ ys) m zero_word ≡ get_or xs m zero_word
@@ -92,14 +92,19 @@ next_seat net t j checked low place =
     let at : length (flat_map (heard_row net) (rounds_of net t ++ next_round net (rounds_of net t) ∷ [])) - length (honest_stations net) + j ≡ t * length (honest_stations net) + j =
     let e : (t + 1) * length (honest_stations net) ≡ t * length (honest_stations net) + length (honest_stations net) = omega arith in omega arith in
     let last : word_of_station (next_round net (rounds_of net t)).received (get_or (honest_stations net) j 0)
-        ≡ get_or (flat_map (heard_row net) (rounds_of net t ++ next_round net (rounds_of net t) ∷ [])) (length (flat_map (heard_row net) (rounds_of net t ++ next_round net (rounds_of net t) ∷ [])) - length (honest_stations net) + j) zero_word =
+    ≡ get_or (flat_map (heard_row net) (rounds_of net t ++ next_round net (rounds_of net t) ∷ [])) (length (flat_map (heard_row net) (rounds_of net t ++ next_round net (rounds_of net t) ∷ [])) - length (honest_stations net) + j) zero_word =
     sym (ap (λ (m : ℕ). get_or (flat_map (heard_row net) (rounds_of net t ++ next_round net (rounds_of net t) ∷ [])) m zero_word) at
     ∙ delivered_at net (rounds_of net t ++ next_round net (rounds_of net t) ∷ []) t j (next_round net (rounds_of net t)) (omega arith) place
     ∙ ap (λ (round : Round). word_of_station round.received (get_or (honest_stations net) j 0)) (get_or_push (rounds_of net t) (next_round net (rounds_of net t)) (next_round net (rounds_of net t)) t rounds)) in
     let received = with_word (flat_map (heard_row net) (rounds_of net t ++ next_round net (rounds_of net t) ∷ [])) (seat_at net (rounds_of net t) j) _ (hears_next net t j checked low place) last
     ∙ sym (history_more (rounds_of net t) (next_round net (rounds_of net t)) (get_or (honest_stations net) j 0)) in
     ap (λ (ws : List (List ℕ)). record {
-      stream = station_stream net (get_or (honest_stations net) j 0); keys = net.keys; station = get_or (honest_stations net) j 0; received = ws; place = j; seats = length (honest_stations net)
+      stream = station_stream net (get_or (honest_stations net) j 0);
+      keys = net.keys;
+      station = get_or (honest_stations net) j 0;
+      received = ws;
+      place = j;
+      seats = length (honest_stations net);
     }) received
 
 pub seats_taken : (net : Net) (t : ℕ) (heard : List (List ℕ)) → IsChecked net → t < net.words → heard ≡ flat_map (heard_row net) (rounds_of net (t + 1)) → map (with_heard heard) (seats_after net (rounds_of net t)) ≡ seats_after net (rounds_of net (t + 1))

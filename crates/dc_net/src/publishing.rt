@@ -14,7 +14,14 @@ use dc_script::Said;
 /// Puts the words of a round at the end of the words of a session, by station: the words of the
 /// honest stations, and for each member the word of its rule, over all words before the round and the
 /// honest words of it. `said` has room for the words of the members.
-pub(crate) fn publish(words: &mut WordList, said: &mut WordList, coalition: &Coalition, stations: u16, says: &[Said], honest: &[Word])
+pub(crate) fn publish(
+    words: &mut WordList,
+    said: &mut WordList,
+    coalition: &Coalition,
+    stations: u16,
+    says: &[Said],
+    honest: &[Word],
+)
     requires room { length words.old.words + stations ≤ words.old.room }
     requires said_room { length says.now ≤ said.old.room }
     requires members { stations_of says.now ≡ members_of coalition.now stations }

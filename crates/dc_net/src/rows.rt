@@ -14,7 +14,13 @@ use dc_script::{Delivery, Said, rule_word_over};
 
 /// Puts the words of all stations at the end, by station: those of the honest stations and those of
 /// the members, each in rising order of the stations. Words that are not there are zero words.
-pub(crate) fn push_row(words: &mut WordList, coalition: &Coalition, stations: u16, honest: &[Word], said: &[Word])
+pub(crate) fn push_row(
+    words: &mut WordList,
+    coalition: &Coalition,
+    stations: u16,
+    honest: &[Word],
+    said: &[Word],
+)
     requires room { length words.old.words + stations ≤ words.old.room }
     ensures room { words.new.room ≡ words.old.room }
     ensures count { length words.new.words ≡ length words.old.words + stations }
@@ -69,7 +75,14 @@ fn push_same(list: &mut WordList, w: &Word, count: usize)
 
 /// Puts the words that so many honest stations receive at the end: the sum for each, or the words of
 /// the delivery's rules.
-pub(crate) fn push_heard(list: &mut WordList, delivery: &Delivery, words: &[Word], n: u16, sum: &Word, count: usize)
+pub(crate) fn push_heard(
+    list: &mut WordList,
+    delivery: &Delivery,
+    words: &[Word],
+    n: u16,
+    sum: &Word,
+    count: usize,
+)
     requires same { length list.old.words + count ≤ list.old.room }
     requires dealt { length list.old.words + length (delivered_words (delivered delivery.now)) ≤ list.old.room }
     requires within { All (IsWithin (length words.now) n) (delivered_words (delivered delivery.now)) }

@@ -28,7 +28,12 @@ pub(crate) fn honest_count(net: &Net) -> usize
 
 /// The seats of all honest stations before the first round, in rising order of the stations. The list
 /// of words received is empty.
-pub(crate) fn seats_of<'n>(alloc: Global, net: &'n Net, count: usize, heard: &WordList) -> Result<Vec<Seat<'n>>, NoMemory>
+pub(crate) fn seats_of<'n>(
+    alloc: Global,
+    net: &'n Net,
+    count: usize,
+    heard: &WordList,
+) -> Result<Vec<Seat<'n>>, NoMemory>
     requires checked { IsChecked net.now }
     requires count { count ≡ length (honest_stations net.now) }
     requires heard { heard.now.words ≡ [] }
@@ -47,7 +52,12 @@ pub(crate) fn seats_of<'n>(alloc: Global, net: &'n Net, count: usize, heard: &Wo
 
 /// Every seat takes its word of the last round, on at most so many threads. With one worker all is
 /// done in place, and no thread starts.
-pub(crate) fn take_all<R: Threads + Sync>(rt: &R, workers: u32, seats: &mut [Seat], heard: &WordList)
+pub(crate) fn take_all<R: Threads + Sync>(
+    rt: &R,
+    workers: u32,
+    seats: &mut [Seat],
+    heard: &WordList,
+)
     requires some { 1 ≤ workers }
     requires next { All (HearsNext heard.now.words) seats.old }
     ensures { seats.new ≡ map (with_heard heard.now.words) seats.old }

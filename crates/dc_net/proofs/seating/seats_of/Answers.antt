@@ -41,14 +41,14 @@ loop-i-preserved c =
     let read = stream_read c.args.net.now c.as_slice-streams.result.now c.from.result c.loop-i.i c.index-streams-from.result c.requires.checked below streams c.from.ensures c.index-streams-from.is in
     elim c.match-streams-from.branch [
       | in-Some+in_ok-seat w ↦ rw w.seats-is (record {
-            seated = subst (λ xs. Seated c.args.net.now xs (c.loop-i.i + 1)) (sym w.push_reserved.ensures.items) (Seated-more c.args.net.now c.loop-i.seats.items c.loop-i.i w.in-Some.stream w.in_ok-seat.seat c.requires.checked below c.loop-i.invariant.seated (read ∙ w.in-Some.is)
-              (w.in_ok-seat.ensures ∙ same_seat w.in-Some.stream c.net.inside.keys c.args.net.now.keys c.loop-i.i w.len.result (length c.loop-i.seats.items) c.args.count _ (ap (λ (n : Net). n.keys) c.net.view_is) (let long = c.loop-i.seats.ok in let l = w.len.ensures in omega arith) c.requires.count));
-            room = w.push_reserved.ensures.capacity ∙ c.loop-i.invariant.room;
-          })
+        seated = subst (λ xs. Seated c.args.net.now xs (c.loop-i.i + 1)) (sym w.push_reserved.ensures.items) (Seated-more c.args.net.now c.loop-i.seats.items c.loop-i.i w.in-Some.stream w.in_ok-seat.seat c.requires.checked below c.loop-i.invariant.seated (read ∙ w.in-Some.is)
+            (w.in_ok-seat.ensures ∙ same_seat w.in-Some.stream c.net.inside.keys c.args.net.now.keys c.loop-i.i w.len.result (length c.loop-i.seats.items) c.args.count _ (ap (λ (n : Net). n.keys) c.net.view_is) (let long = c.loop-i.seats.ok in let l = w.len.ensures in omega arith) c.requires.count));
+        room = w.push_reserved.ensures.capacity ∙ c.loop-i.invariant.room;
+      })
       | in_default w ↦ rw w.seats-is (record {
-            seated = Seated-past c.args.net.now c.loop-i.seats.items c.loop-i.i c.requires.checked below c.loop-i.invariant.seated (ap (λ (o : Option Stream). is_some o) (read ∙ w.in_default.is));
-            room = c.loop-i.invariant.room;
-          })
+        seated = Seated-past c.args.net.now c.loop-i.seats.items c.loop-i.i c.requires.checked below c.loop-i.invariant.seated (ap (λ (o : Option Stream). is_some o) (read ∙ w.in_default.is));
+        room = c.loop-i.invariant.room;
+      })
     ]
 
 pub returns : goal.returns
