@@ -1,8 +1,8 @@
 pub mod CommandLemmas
-pub mod RanLemmas
 pub mod ShelfLemmas
 pub mod MakingLemmas
 pub mod ReplayLemmas
 pub mod TrialLemmas
+pub mod RanLemmas
 pub mod PromiseLemmas
 mod Rows

@@ -1,6 +1,8 @@
 -- The promises of a call follow from what it did by its outcome.
 use Rattle.std.proofs.Common.{◌≡◌, ◌≤◌, ◌⊎◌, ℕ, Bool, true, false, List, [], ◌∷◌, length, Some, Result, Ok, Err, inl, inr, refl, sym, ap, ◌∙◌, subst, arith}
 use Rattle.std.specs.Prelude.{IsTrue, codes}
+use Rattle.std.specs.Str.{bytes_eq}
+use Rattle.std.proofs.lemmas.Slice.Eq.{bytes_eq-Decides}
 use Rattle.dc_spec.specs.Outside.{ShelfState, SinkState, absent, held, Rose, grown}
 use Rattle.dc_spec.specs.Limits.{transcript_limit, manifest_limit, key_file_limit}
 use Rattle.dc_spec.specs.Pads.{Keys as PadKeys}
@@ -19,25 +21,31 @@ use Rattle.dc_manifest.specs.declared.fault.ManifestFault.{ManifestFault}
 use Rattle.dc_superpose.specs.Reading.{transcript_of}
 use Rattle.dc_superpose.specs.declared.fault.TranscriptFault.{TranscriptFault}
 use Rattle.dc_cli.specs.Forms.{is_name, is_form, longest_begun}
-use Rattle.dc_cli.specs.Commands.{Task, sum, keygen, keygen_seeds, migrate, SpellsKeygen, Spells}
+use Rattle.dc_cli.specs.Commands.{Task, sum, keygen, keygen_seeds, migrate, replay, SpellsKeygen, SpellsWorkers, unsaid, said, Spells}
 use Rattle.dc_cli.specs.Summing.{SummedFile, SumRan, Refused}
 use Rattle.dc_cli.specs.Making.{Making, MakesOf}
 use Rattle.dc_cli.specs.Keygen.{keys_for, keygen_making}
 use Rattle.dc_cli.specs.KeygenSeeds.{seeds_for, seeds_making}
 use Rattle.dc_cli.specs.Migrating.{pads_for, migrate_making}
 use Rattle.dc_cli.specs.Ran.{Ran, CommandRan}
-use Rattle.dc_cli.specs.Promises.{Call, AsksFor, RefusesOtherWords, Leaves, KeepsFiles, AsksInOrder, PrintsOnlyWhenDone, PrintsSums, HasLimit, TellsName, TellsTheLast, MissesTheAbsent, RefusesTheLong, TellsTheFault, RefusesTheMalformed, HasCauses, Completes, MakesFile, making_of, MakesFiles, WritesKeys, WritesSeeds, WritesPads}
+use Rattle.dc_cli.specs.Promises.{Call, AsksFor, RefusesOtherWords, Leaves, KeepsFiles, AsksInOrder, PrintsOnlyWhenDone, PrintsSums, HasLimit, TellsName, TellsTheLast, MissesTheAbsent, RefusesTheLong, TellsTheFault, RefusesTheMalformed, HasCauses, Completes, MakesFile, making_of, MakesFiles, WritesKeys, WritesSeeds, WritesPads, PrintsView, RunsNets}
 use Rattle.dc_cli.specs.declared.outcome.FileFault.{FileFault}
 use Rattle.dc_cli.specs.declared.outcome.FileFault.TheVariants.{Transcript, Keys, Manifest, Stream, Script}
 use Rattle.dc_cli.specs.declared.outcome.Outcome.{Outcome}
 use Rattle.dc_cli.specs.declared.outcome.Outcome.TheVariants.{Done, Usage, Missing, TooLong, Malformed, Disagree, ShelfFault, SinkFault, NoMemory}
 use Rattle.dc_cli.proofs.ShelfLemmas.{told_bytes, held_is_there, held_within, AskedUpTo, asked_none, asked_first, LastAsked, last_is}
+use Rattle.dc_cli.proofs.ReplayLemmas.{ReplayRan-kept, ReplayRan-asked, ReplayRan-asked_all, ReplayRan-silent, ReplayRan-missing, ReplayRan-long, ReplayRan-transcript, ReplayRan-last, ReplayRan-shelf_rose, ReplayRan-sink_rose, ReplayRan-prints, ReplayRan-completes}
 use Rattle.dc_cli.proofs.MakingLemmas.{MakesOf-leaves, MakesOf-asked, MakesOf-asked_all, MakesOf-last, MakesOf-rose, MakesOf-missing, MakesOf-long, MakesOf-written, MakesOf-fault, MakesOf-completes, MakesOf-refuses}
 
 -- a name as a test of its truth
 name_is : (b : Bool) → IsTrue b → b ≡ true
 name_is true h = refl
 name_is false h = h
+
+replay_form : (words : List (List ℕ)) (net : List ℕ) (workers : ℕ) (rest : List (List ℕ)) {after : List (List ℕ)} → words ≡ codes "replay" ∷ after → after ≡ net ∷ rest
+    → is_name net ≡ true → SpellsWorkers rest workers → is_form words ≡ true
+replay_form words net workers rest a b named (unsaid none one) = rw (a, b, none, named) refl
+replay_form words net workers rest a b named (said digits are number) = rw (a, b, are, named, number) refl
 
 -- the words of a command are a form
 Spells-form : (words : List (List ℕ)) (command : Task) → Spells words command → is_form words ≡ true
@@ -54,6 +62,9 @@ Spells-form words (migrate keys target) p =
     let keys_named : is_name keys ≡ true = name_is (is_name keys) p.1 in
     let target_named : is_name target ≡ true = name_is (is_name target) p.2 in
     rw (p.0, keys_named, target_named) refl
+Spells-form words (replay net workers) p =
+    let q = p.2 in
+    replay_form words net workers q.rest p.1 q.words_are (name_is (is_name net) q.net_is) q.workers_are
 
 not_both : (words : List (List ℕ)) (command : Task) → Spells words command → is_form words ≡ false → ⊥
 not_both words command p refused = let is = Spells-form words command p in absurd cc
@@ -77,6 +88,24 @@ same_keygen words seed net target flags seed' net' target' flags' p q =
 -- the words after the first one, where the first is the same
 same_rest : (words rest rest' : List (List ℕ)) (first : List ℕ) → words ≡ first ∷ rest → words ≡ first ∷ rest' → rest ≡ rest'
 same_rest words rest rest' first a b = cc
+
+same_workers : (words : List (List ℕ)) (n m : ℕ) → SpellsWorkers words n → SpellsWorkers words m → n ≡ m
+same_workers words n m (unsaid none one) (unsaid none' one') = one ∙ sym one'
+same_workers words n m (unsaid none one) (said digits are number) = absurd cc
+same_workers words n m (said digits are number) (unsaid none one) = absurd cc
+same_workers words n m (said digits are number) (said digits' are' number') = cc
+
+-- words begin with one word
+first_word : List (List ℕ) → List ℕ
+first_word [] = []
+first_word (word ∷ words) = word
+
+verbs_differ : (words front after : List (List ℕ)) (verb other : List ℕ) → words ≡ verb ∷ front → words ≡ other ∷ after → bytes_eq verb other ≡ false → ⊥
+unfolding first_word
+verbs_differ words front after verb other a b differ =
+    let same : verb ≡ other = ap first_word (sym a ∙ b) in
+    let test : bytes_eq verb other ≡ true = (bytes_eq-Decides verb other).1 same in
+    absurd cc
 
 -- the words spell one command
 same_command : (words : List (List ℕ)) (a b : Task) → Spells words a → Spells words b → a ≡ b
@@ -104,6 +133,24 @@ same_command words (migrate keys target) (sum file) p q = let a = p.0 in let b =
 same_command words (migrate keys target) (keygen seed net other) p q = let a = p.0 in let b = q.1 in absurd cc
 same_command words (migrate keys target) (keygen_seeds seed net other) p q = let a = p.0 in let b = q.1 in absurd cc
 same_command words (migrate keys target) (migrate keys' target') p q = let a = p.0 in let b = q.0 in cc
+same_command words (sum file) (replay net workers) p q = absurd (verbs_differ words _ _ (codes "sum") (codes "replay") p.0 q.1 refl)
+same_command words (replay net workers) (sum file) p q = absurd (verbs_differ words _ _ (codes "replay") (codes "sum") p.1 q.0 refl)
+same_command words (keygen seed net target) (replay net' workers) p q = absurd (verbs_differ words _ _ (codes "keygen") (codes "replay") p.1 q.1 refl)
+same_command words (replay net workers) (keygen seed net' target) p q = absurd (verbs_differ words _ _ (codes "replay") (codes "keygen") p.1 q.1 refl)
+same_command words (replay net workers) (replay net' workers') p q =
+    let a = p.1 in
+    let b = q.1 in
+    let a_rest = p.2.words_are in
+    let b_rest = q.2.words_are in
+    let rests : q.2.rest ≡ p.2.rest = cc in
+    let nets : net ≡ net' = cc in
+    let W : List (List ℕ) → Type 0 = λ ws. SpellsWorkers ws workers' in
+    let counts : workers ≡ workers' = same_workers p.2.rest workers workers' p.2.workers_are (subst W rests q.2.workers_are) in
+    cc
+same_command words (keygen_seeds seed net target) (replay net' workers) p q = absurd (verbs_differ words _ _ (codes "keygen") (codes "replay") p.1 q.1 refl)
+same_command words (replay net workers) (keygen_seeds seed net' target) p q = absurd (verbs_differ words _ _ (codes "replay") (codes "keygen") p.1 q.1 refl)
+same_command words (migrate keys target) (replay net' workers) p q = absurd (verbs_differ words _ _ (codes "migrate") (codes "replay") p.0 q.1 refl)
+same_command words (replay net workers) (migrate keys target) p q = absurd (verbs_differ words _ _ (codes "replay") (codes "migrate") p.1 q.0 refl)
 
 refused_words : (words : List (List ℕ)) (s s' : ShelfState) (o o' : SinkState) (outcome : Outcome) → Ran words s s' o o' outcome → is_form words ≡ false → outcome ≡ Usage (longest_begun words)
 refused_words words s s' o o' (Usage place) ran refused = ap Usage ran.place_is
@@ -168,6 +215,7 @@ CommandRan-leaves (sum file) s s' o o' outcome ran = SumRan-kept file s s' o o' 
 CommandRan-leaves (keygen seed net target) s s' o o' outcome ran = MakesOf-leaves (keygen_making seed net target) s s' outcome ran.1
 CommandRan-leaves (keygen_seeds seed net target) s s' o o' outcome ran = MakesOf-leaves (seeds_making seed net target) s s' outcome ran.1
 CommandRan-leaves (migrate keys target) s s' o o' outcome ran = MakesOf-leaves (migrate_making keys target) s s' outcome ran.1
+CommandRan-leaves (replay net workers) s s' o o' outcome ran = ReplayRan-kept net s s' o o' outcome ran
 
 kept_unread : (words : List (List ℕ)) (s s' : ShelfState) (o o' : SinkState) (outcome : Outcome) → is_form words ≡ false → Ran words s s' o o' outcome → s'.holds ≡ s.holds
 kept_unread words s s' o o' (Usage place) refused ran = ap (λ (x : ShelfState). x.holds) ran.shelf_stays
@@ -179,6 +227,7 @@ CommandRan-asked (sum file) s s' o o' outcome ran = (file ∷ [], refl, SumRan-a
 CommandRan-asked (keygen seed net target) s s' o o' outcome ran = (net ∷ target ∷ [], refl, MakesOf-asked (keygen_making seed net target) s s' outcome ran.1)
 CommandRan-asked (keygen_seeds seed net target) s s' o o' outcome ran = (net ∷ target ∷ [], refl, MakesOf-asked (seeds_making seed net target) s s' outcome ran.1)
 CommandRan-asked (migrate keys target) s s' o o' outcome ran = (keys ∷ target ∷ [], refl, MakesOf-asked (migrate_making keys target) s s' outcome ran.1)
+CommandRan-asked (replay net workers) s s' o o' outcome ran = ReplayRan-asked net s s' o o' outcome ran
 
 CommandRan-asked_all : (command : Task) (s s' : ShelfState) (o o' : SinkState) → CommandRan command s s' o o' Done
     → (files : List (List ℕ)) × AsksFor s command files × (s'.asked ≡ grown s.asked files)
@@ -186,6 +235,7 @@ CommandRan-asked_all (sum file) s s' o o' ran = (file ∷ [], refl, ran.summed.r
 CommandRan-asked_all (keygen seed net target) s s' o o' ran = (net ∷ target ∷ [], refl, MakesOf-asked_all (keygen_making seed net target) s s' ran.1)
 CommandRan-asked_all (keygen_seeds seed net target) s s' o o' ran = (net ∷ target ∷ [], refl, MakesOf-asked_all (seeds_making seed net target) s s' ran.1)
 CommandRan-asked_all (migrate keys target) s s' o o' ran = (keys ∷ target ∷ [], refl, MakesOf-asked_all (migrate_making keys target) s s' ran.1)
+CommandRan-asked_all (replay net workers) s s' o o' ran = ReplayRan-asked_all net s s' o o' ran
 
 asked_all : (command : Task) (s s' : ShelfState) (o o' : SinkState) (outcome : Outcome) → outcome ≡ Done → CommandRan command s s' o o' outcome
     → (files : List (List ℕ)) × AsksFor s command files × (s'.asked ≡ grown s.asked files)
@@ -206,6 +256,7 @@ CommandRan-silent (sum file) s s' o o' outcome not_done not_sink p = SumRan-sile
 CommandRan-silent (keygen seed net target) s s' o o' outcome not_done not_sink p = p.0
 CommandRan-silent (keygen_seeds seed net target) s s' o o' outcome not_done not_sink p = p.0
 CommandRan-silent (migrate keys target) s s' o o' outcome not_done not_sink p = p.0
+CommandRan-silent (replay net workers) s s' o o' outcome not_done not_sink p = ReplayRan-silent net s s' o o' outcome not_done not_sink p
 
 silent : (words : List (List ℕ)) (s s' : ShelfState) (o o' : SinkState) (outcome : Outcome) → (outcome ≡ Done → ⊥) → (outcome ≡ SinkFault → ⊥) → Ran words s s' o o' outcome → o' ≡ o
 silent words s s' o o' (Usage place) not_done not_sink ran = ran.out_stays
@@ -228,6 +279,7 @@ missing_cause (sum file) s s' o o' name ran = rw ran.1.0 ran.1.1.answer
 missing_cause (keygen seed net target) s s' o o' name ran = MakesOf-missing (keygen_making seed net target) s s' name ran.1
 missing_cause (keygen_seeds seed net target) s s' o o' name ran = MakesOf-missing (seeds_making seed net target) s s' name ran.1
 missing_cause (migrate keys target) s s' o o' name ran = MakesOf-missing (migrate_making keys target) s s' name ran.1
+missing_cause (replay net workers) s s' o o' name ran = ReplayRan-missing net name s s' o o' ran
 
 missing : (words : List (List ℕ)) (s s' : ShelfState) (o o' : SinkState) (outcome : Outcome) (name : List ℕ) → outcome ≡ Missing name → Ran words s s' o o' outcome
     → (s.holds name ≡ absent) ⊎ FailsUntold (s.holds name) s.faults s'.faults
@@ -242,6 +294,7 @@ long_cause (sum file) s s' o o' name ran = (transcript_limit, (ran.1.0, refl), r
 long_cause (keygen seed net target) s s' o o' name ran = (manifest_limit, (ran.1.0, refl), MakesOf-long (keygen_making seed net target) s s' name ran.1)
 long_cause (keygen_seeds seed net target) s s' o o' name ran = (manifest_limit, (ran.1.0, refl), MakesOf-long (seeds_making seed net target) s s' name ran.1)
 long_cause (migrate keys target) s s' o o' name ran = (key_file_limit, (ran.1.0, refl), MakesOf-long (migrate_making keys target) s s' name ran.1)
+long_cause (replay net workers) s s' o o' name ran = ReplayRan-long net name s s' o o' ran
 
 too_long : (command : Task) (s s' : ShelfState) (o o' : SinkState) (outcome : Outcome) (name : List ℕ) → outcome ≡ TooLong name → CommandRan command s s' o o' outcome
     → (limit : ℕ) × HasLimit s command name limit × (IsHeldAbove (s.holds name) limit ⊎ FailsUntold (s.holds name) s.faults s'.faults)
@@ -270,6 +323,7 @@ fault_cause (sum file) s s' o o' name bytes fault told ran =
 fault_cause (keygen seed net target) s s' o o' name bytes fault told ran = absurd (no_fault_for_keys seed (manifest_of ran.1.1.bytes) fault ran.1.1.holds)
 fault_cause (keygen_seeds seed net target) s s' o o' name bytes fault told ran = absurd (no_fault_for_seeds seed (manifest_of ran.1.1.bytes) fault ran.1.1.holds)
 fault_cause (migrate keys target) s s' o o' name bytes fault told ran = absurd (no_fault_for_pads (keys_from_bytes ran.1.1.bytes) fault ran.1.1.holds)
+fault_cause (replay net workers) s s' o o' name bytes fault told ran = absurd (ReplayRan-transcript net name fault s s' o o' ran)
 
 malformed : (words : List (List ℕ)) (s s' : ShelfState) (o o' : SinkState) (outcome : Outcome) (name bytes : List ℕ) (fault : TranscriptFault)
     → outcome ≡ Malformed name (Transcript fault) → s.holds name ≡ held bytes → Ran words s s' o o' outcome → Refused bytes fault
@@ -301,6 +355,7 @@ CommandRan-last (sum file) s s' o o' outcome name tells p = SumRan-last file s s
 CommandRan-last (keygen seed net target) s s' o o' outcome name tells p = MakesOf-last (keygen_making seed net target) s s' outcome name tells p.1
 CommandRan-last (keygen_seeds seed net target) s s' o o' outcome name tells p = MakesOf-last (seeds_making seed net target) s s' outcome name tells p.1
 CommandRan-last (migrate keys target) s s' o o' outcome name tells p = MakesOf-last (migrate_making keys target) s s' outcome name tells p.1
+CommandRan-last (replay net workers) s s' o o' outcome name tells p = ReplayRan-last net s s' o o' outcome name tells p
 
 last_asked : (words : List (List ℕ)) (s s' : ShelfState) (o o' : SinkState) (outcome : Outcome) (name : List ℕ) → TellsName outcome name → Ran words s s' o o' outcome → LastAsked name s s'
 last_asked words s s' o o' (Usage place) name tells ran = elim tells [ inl e ↦ absurd cc | inr other ↦ elim other [ inl e ↦ absurd cc | inr m ↦ let e = m.1 in absurd cc ] ]
@@ -311,12 +366,14 @@ shelf_rose (sum file) s s' o o' ran = ran.1.answer
 shelf_rose (keygen seed net target) s s' o o' ran = MakesOf-rose (keygen_making seed net target) s s' ran.1
 shelf_rose (keygen_seeds seed net target) s s' o o' ran = MakesOf-rose (seeds_making seed net target) s s' ran.1
 shelf_rose (migrate keys target) s s' o o' ran = MakesOf-rose (migrate_making keys target) s s' ran.1
+shelf_rose (replay net workers) s s' o o' ran = ReplayRan-shelf_rose net s s' o o' ran
 
 sink_rose : (command : Task) (s s' : ShelfState) (o o' : SinkState) → CommandRan command s s' o o' SinkFault → Rose o.faults o'.faults
 sink_rose (sum file) s s' o o' ran = ran.1.put.answer.1
 sink_rose (keygen seed net target) s s' o o' ran = absurd ran.1
 sink_rose (keygen_seeds seed net target) s s' o o' ran = absurd ran.1
 sink_rose (migrate keys target) s s' o o' ran = absurd ran.1
+sink_rose (replay net workers) s s' o o' ran = ReplayRan-sink_rose net s s' o o' ran
 
 shelf_cause : (words : List (List ℕ)) (s s' : ShelfState) (o o' : SinkState) (outcome : Outcome) → outcome ≡ ShelfFault → Ran words s s' o o' outcome → Rose s.faults s'.faults
 shelf_cause words s s' o o' outcome e ran =
@@ -458,6 +515,7 @@ MakesFile-run c m silent ran =
 -- by the command
 MakesFiles-ran : (c : Call) (command : Task) (m : Making) → making_of command ≡ Some m → CommandRan command c.shelf c.shelf' c.out c.out' c.outcome → MakesFile c m
 MakesFiles-ran c (sum file) m e ran = absurd cc
+MakesFiles-ran c (replay net workers) m e ran = absurd cc
 MakesFiles-ran c (keygen seed net target) m e ran = let same : keygen_making seed net target ≡ m = cc in rw (← same) (MakesFile-run c (keygen_making seed net target) ran.0 ran.1)
 MakesFiles-ran c (keygen_seeds seed net target) m e ran = let same : seeds_making seed net target ≡ m = cc in rw (← same) (MakesFile-run c (seeds_making seed net target) ran.0 ran.1)
 MakesFiles-ran c (migrate keys target) m e ran = let same : migrate_making keys target ≡ m = cc in rw (← same) (MakesFile-run c (migrate_making keys target) ran.0 ran.1)
@@ -500,3 +558,12 @@ WritesPads-run c ran = λ e file target read p told.
     let w = (MakesFiles-run c ran (migrate file target) (migrate_making file target) p refl).written e read told in
     let k = pads_of (keys_from_bytes read) w.0 w.1 in
     (k.0, k.1, w.2 ∙ ap (λ (bytes : List ℕ). rewritten (c.shelf.holds target) bytes) k.2)
+
+pub PrintsView-run : (c : Call) → HasRun c → PrintsView c
+PrintsView-run c ran = λ e net workers p.
+    let P : Outcome → Type 0 = λ x. CommandRan (replay net workers) c.shelf c.shelf' c.out c.out' x in
+    ReplayRan-prints net c.shelf c.shelf' c.out c.out' (subst P e (HasRun-as c (replay net workers) p ran))
+
+pub RunsNets-run : (c : Call) → HasRun c → RunsNets c
+RunsNets-run c ran = λ net workers files made p needed holds is calm_shelf calm_sink.
+    ReplayRan-completes net c.shelf c.shelf' c.out c.out' c.outcome files made needed holds is calm_shelf calm_sink (HasRun-as c (replay net workers) p ran)

@@ -1,8 +1,12 @@
 -- What a command did is what the call did.
-use Rattle.std.proofs.Common.{ℕ, List}
+use Rattle.std.proofs.Common.{◌≡◌, ◌≤◌, ◌&&◌, nat_le, Bool, true, false, cond, ℕ, List, Option, None, Some, refl, sym, subst, arith}
+use Rattle.std.proofs.lemmas.Grind.{common_steps}
 use Rattle.dc_spec.specs.Outside.{ShelfState, SinkState}
-use Rattle.dc_cli.specs.Commands.{Task, sum, keygen, keygen_seeds, migrate, Spells}
+use Rattle.dc_field.specs.NumberInText.{number_in}
+use Rattle.dc_cli.specs.Forms.{where_between, number_between}
+use Rattle.dc_cli.specs.Commands.{Task, sum, keygen, keygen_seeds, migrate, replay, SpellsWorkers, unsaid, said, Spells, IsRunnable}
 use Rattle.dc_cli.specs.Ran.{Ran, CommandRan}
+use Rattle.dc_cli.proofs.ReplayLemmas.{ReplayRan-usage}
 use Rattle.dc_cli.specs.declared.outcome.Outcome.{Outcome}
 use Rattle.dc_cli.specs.declared.outcome.Outcome.TheVariants.{Usage}
 
@@ -12,8 +16,25 @@ CommandRan-usage (sum file) s s' o o' place ran = ran.1
 CommandRan-usage (keygen seed net target) s s' o o' place ran = ran.1
 CommandRan-usage (keygen_seeds seed net target) s s' o o' place ran = ran.1
 CommandRan-usage (migrate keys target) s s' o o' place ran = ran.1
+CommandRan-usage (replay net workers) s s' o o' place ran = ReplayRan-usage net s s' o o' place ran
 
 pub Ran-command : (words : List (List ℕ)) (command : Task) (s s' : ShelfState) (o o' : SinkState) (outcome : Outcome) → Spells words command → CommandRan command s s' o o' outcome
     → Ran words s s' o o' outcome
 Ran-command words command s s' o o' (Usage place) spelled ran = absurd (CommandRan-usage command s s' o o' place ran)
 Ran-command words command s s' o o' other spelled ran = record { command = command; spelled = spelled; ran = ran }
+
+-- a number between 1 and 64
+between_limits : (o : Option ℕ) (n : ℕ) → where_between 1 64 o ≡ Some n → (1 ≤ n) × (n ≤ 64)
+between_limits None n e = absurd cc
+between_limits (Some m) n e = grind (arith, common_steps)
+
+workers_limits : (words : List (List ℕ)) (workers : ℕ) → SpellsWorkers words workers → (1 ≤ workers) × (workers ≤ 64)
+workers_limits words workers (unsaid none one) = (omega (arith, one), omega (arith, one))
+workers_limits words workers (said digits are number) = between_limits (number_in digits) workers number
+
+pub Spells-runnable : (words : List (List ℕ)) (command : Task) → Spells words command → IsRunnable command
+Spells-runnable words (sum file) p = tt
+Spells-runnable words (keygen seed net target) p = tt
+Spells-runnable words (keygen_seeds seed net target) p = tt
+Spells-runnable words (migrate keys target) p = tt
+Spells-runnable words (replay net workers) p = workers_limits p.2.rest workers p.2.workers_are

@@ -23,7 +23,8 @@ use Rattle.dc_cli.specs.declared.outcome.FileFault.{FileFault}
 use Rattle.dc_cli.specs.declared.outcome.FileFault.TheVariants.{Transcript}
 use Rattle.dc_cli.specs.declared.outcome.Outcome.{Outcome}
 use Rattle.dc_cli.specs.declared.outcome.Outcome.TheVariants.{Done, Usage, Missing, TooLong, Malformed, Disagree, ShelfFault as ShelfFailed, SinkFault, NoMemory}
-use Rattle.dc_cli.proofs.ShelfLemmas.{LastAsked}
+use Rattle.dc_cli.specs.Promises.{TellsName, NamesOfNet, NeedsOfNet, next_name}
+use Rattle.dc_cli.proofs.ShelfLemmas.{LastAsked, AskedUpTo}
 
 -- all files stay, whatever the answer
 Ended-kept : {A : Type 0} (reader : Reader A) (s s' : ShelfState) (r : Result A NotRead) → Ended reader s s' r → s'.holds ≡ s.holds
@@ -49,10 +50,11 @@ Stops-last reader name causes.NoMemory s s' is p = absurd (is refl)
 -- the file that has a fault is the last that was asked for
 Refuses-last : {A : Type 0} (reader : Reader A) (name : List ℕ) (fault : NetFileFault) (s s' : ShelfState)
     → Refuses reader name fault s s' → LastAsked name s s'
-Refuses-last reader name fault s s' p =
-    (names_of p.front,
-    p.gave.asked ∙ ap (λ (ns : List (List ℕ)). grown s.asked ns)
-      (map-append (λ (file : File). file.name) p.front (p.last ∷ []) ∙ ap (λ (n : List ℕ). names_of p.front ++ n ∷ []) p.named))
+Refuses-last reader name fault s s' p = (
+  names_of p.front,
+  p.gave.asked ∙ ap (λ (ns : List (List ℕ)). grown s.asked ns)
+      (map-append (λ (file : File). file.name) p.front (p.last ∷ []) ∙ ap (λ (n : List ℕ). names_of p.front ++ n ∷ []) p.named),
+)
 
 -- a file that is missing is absent, or unknown where the count of faults rose
 Stops-missing : {A : Type 0} (reader : Reader A) (name : List ℕ) (s s' : ShelfState) → Stops reader name causes.Missing s s'
@@ -209,3 +211,78 @@ ReplayRan-completes name s s' o o' SinkFault files net needed holds made calm_sh
 ReplayRan-completes name s s' o o' NoMemory files net needed holds made calm_shelf calm_sink p = inr refl
 ReplayRan-completes name s s' o o' other files net needed holds made calm_shelf calm_sink p =
     inr (refuses_not name s s' other files net needed holds made calm_shelf p.1)
+
+-- a name that the outcome reports is the last that was asked for
+pub ReplayRan-last : (name : List ℕ) (s s' : ShelfState) (o o' : SinkState) (outcome : Outcome) (seen : List ℕ) → TellsName outcome seen
+    → ReplayRan name s s' o o' outcome → LastAsked seen s s'
+ReplayRan-last name s s' o o' outcome seen tells p =
+    let P : Outcome → Type 0 = λ x. ReplayRan name s s' o o' x in
+    elim tells [
+      | inl e ↦ ReplayRan-last_missing name seen s s' o o' (subst P e p)
+      | inr other ↦ elim other [
+        | inl e ↦ ReplayRan-last_long name seen s s' o o' (subst P e p)
+        | inr f ↦ ReplayRan-last_fault name seen f.0 s s' o o' (subst P f.1 p)
+      ]
+    ]
+
+pub ReplayRan-long : (name seen : List ℕ) (s s' : ShelfState) (o o' : SinkState) → ReplayRan name s s' o o' (TooLong seen)
+    → (limit : ℕ) × NeedsOfNet name s seen limit × (IsHeldAbove (s.holds seen) limit ⊎ FailsUntold (s.holds seen) s.faults s'.faults)
+ReplayRan-long name seen s s' o o' p =
+    let q = long_of name seen s s' p.1.refusal p.1.outcome_is p.1.reads in
+    (q.limit, record { files = q.files; needed = q.gave.needed; told = q.gave.bytes; next = q.needed }, Stops-long (net_step name) seen s s' q)
+
+transcript_of_none : (seen : List ℕ) (fault : TranscriptFault) (refusal : NotRead) → Malformed seen (Transcript fault) ≡ outcome_of refusal → ⊥
+transcript_of_none seen fault (refusals.Malformed told found) e = no_transcript fault found cc
+transcript_of_none seen fault (refusals.Missing told) e = absurd cc
+transcript_of_none seen fault (refusals.TooLong told) e = absurd cc
+transcript_of_none seen fault (refusals.Disagree found) e = absurd cc
+transcript_of_none seen fault refusals.ShelfFault e = absurd cc
+transcript_of_none seen fault refusals.NoMemory e = absurd cc
+
+pub ReplayRan-transcript : (name seen : List ℕ) (fault : TranscriptFault) (s s' : ShelfState) (o o' : SinkState)
+    → ReplayRan name s s' o o' (Malformed seen (Transcript fault)) → ⊥
+ReplayRan-transcript name seen fault s s' o o' p = transcript_of_none seen fault p.1.refusal p.1.outcome_is
+
+-- a front of the names of the net was asked for
+abbrev AsksNames : List ℕ → ShelfState → ShelfState → Type 0
+AsksNames name s s' = (names : List (List ℕ)) × NamesOfNet name s names × AskedUpTo names s s'
+
+gave_names : (name : List ℕ) (files : List File) (s s' : ShelfState) → Gave (net_step name) files s s' → AsksNames name s s'
+gave_names name files s s' p =
+    let next = next_name (net_step name (bytes_of files)) in
+    (names_of files ++ next, record { files = files; needed = p.needed; told = p.bytes; names_are = refl }, (names_of files, (next, refl), p.asked))
+
+stops_names : (name seen : List ℕ) (cause : ShelfFault) (s s' : ShelfState) (p : Stops (net_step name) seen cause s s') → (cause ≡ causes.NoMemory → ⊥)
+    → AsksNames name s s'
+stops_names name seen cause s s' p is =
+    let names = names_of p.files ++ seen ∷ [] in
+    (names, record { files = p.files; needed = p.gave.needed; told = p.gave.bytes; names_are = rw p.needed refl }, (names, ([], sym (append-nil names)), (stops_asked name seen cause s s' p is)))
+  where
+    stops_asked : (name seen : List ℕ) (cause : ShelfFault) (s s' : ShelfState) (p : Stops (net_step name) seen cause s s') → (cause ≡ causes.NoMemory → ⊥)
+        → s'.asked ≡ grown s.asked (names_of p.files ++ seen ∷ [])
+    stops_asked name seen causes.Missing s s' p is = p.read.asked ∙ ap (λ (t : Option (List (List ℕ))). grown t (seen ∷ [])) p.gave.asked ∙ grown-grown s.asked (names_of p.files) (seen ∷ [])
+    stops_asked name seen causes.TooLong s s' p is = p.read.asked ∙ ap (λ (t : Option (List (List ℕ))). grown t (seen ∷ [])) p.gave.asked ∙ grown-grown s.asked (names_of p.files) (seen ∷ [])
+    stops_asked name seen causes.Failed s s' p is = p.read.asked ∙ ap (λ (t : Option (List (List ℕ))). grown t (seen ∷ [])) p.gave.asked ∙ grown-grown s.asked (names_of p.files) (seen ∷ [])
+    stops_asked name seen causes.NoMemory s s' p is = absurd (is refl)
+
+read_names : (name : List ℕ) (s s' : ShelfState) (r : Result Net NotRead) → Ended (net_step name) s s' r → AsksNames name s s'
+read_names name s s' (Ok net) p = gave_names name p.files s s' p.gave
+read_names name s s' (Err (refusals.Missing seen)) p = stops_names name seen causes.Missing s s' p (λ e. absurd cc)
+read_names name s s' (Err (refusals.TooLong seen)) p = stops_names name seen causes.TooLong s s' p (λ e. absurd cc)
+read_names name s s' (Err (refusals.Malformed seen fault)) p = gave_names name (p.front ++ p.last ∷ []) s s' p.gave
+read_names name s s' (Err (refusals.Disagree fault)) p = gave_names name p.files s s' p.gave
+read_names name s s' (Err refusals.ShelfFault) p = stops_names name p.0 causes.Failed s s' p.1 (λ e. absurd cc)
+read_names name s s' (Err refusals.NoMemory) p = gave_names name p.0 s s' p.1
+
+pub ReplayRan-asked : (name : List ℕ) (s s' : ShelfState) (o o' : SinkState) (outcome : Outcome) → ReplayRan name s s' o o' outcome → AsksNames name s s'
+ReplayRan-asked name s s' o o' Done p = read_names name s s' (Ok p.net) p.reads.read
+ReplayRan-asked name s s' o o' SinkFault p = read_names name s s' (Ok p.1.net) p.1.reads.read
+ReplayRan-asked name s s' o o' NoMemory p = read_names name s s' p.1.0 p.1.1.read
+ReplayRan-asked name s s' o o' _ p = read_names name s s' (Err p.1.refusal) p.1.reads.read
+
+-- all names of the net, where all was done
+pub ReplayRan-asked_all : (name : List ℕ) (s s' : ShelfState) (o o' : SinkState) → ReplayRan name s s' o o' Done
+    → (names : List (List ℕ)) × NamesOfNet name s names × (s'.asked ≡ grown s.asked names)
+ReplayRan-asked_all name s s' o o' p =
+    let v = ReplayRan-prints name s s' o o' p in
+    (names_of v.files, record { files = v.files; needed = v.needed; told = v.told; names_are = rw v.made (sym (append-nil (names_of v.files))) }, v.asked)

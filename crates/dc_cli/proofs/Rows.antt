@@ -1,5 +1,5 @@
 -- Statuses, fault lines and limits, each with its number or text, by computation.
-use Rattle.std.proofs.Common.{◌≡◌, pos, negsuc, [], ◌∷◌, ◌++◌, refl}
+use Rattle.std.proofs.Common.{◌≡◌, true, pos, negsuc, [], ◌∷◌, ◌++◌, refl}
 use Rattle.std.specs.Prelude.{codes}
 use Rattle.std.specs.Fmt.{digits}
 use Rattle.dc_spec.specs.Limits.{transcript_limit, manifest_limit, key_file_limit}
@@ -7,10 +7,14 @@ use Rattle.dc_superpose.specs.declared.fault.TranscriptFault.TheVariants.{Trunca
 use Rattle.dc_keyfile.specs.declared.fault.KeyFault.TheVariants as key
 use Rattle.dc_graph.specs.declared.fault.GraphFault.TheVariants as graph
 use Rattle.dc_manifest.specs.declared.fault.ManifestFault.TheVariants as manifest
+use Rattle.dc_stream.specs.declared.fault.StreamKind.TheVariants as stream
+use Rattle.dc_script.specs.declared.fault.ScriptKind.TheVariants as script
+use Rattle.dc_net.specs.declared.fault.NetFault.TheVariants as net
+use Rattle.dc_cli.specs.Forms.{is_form, longest_begun}
 use Rattle.dc_cli.specs.Lines.{fault_line}
 use Rattle.dc_cli.specs.Outcomes.{status_of}
-use Rattle.dc_cli.specs.declared.outcome.FileFault.TheVariants.{Transcript, Keys, Manifest}
-use Rattle.dc_cli.specs.declared.outcome.Outcome.TheVariants.{Done, Usage, Missing, TooLong, Malformed, ShelfFault, SinkFault, NoMemory}
+use Rattle.dc_cli.specs.declared.outcome.FileFault.TheVariants.{Transcript, Keys, Manifest, Stream, Script}
+use Rattle.dc_cli.specs.declared.outcome.Outcome.TheVariants.{Done, Usage, Missing, TooLong, Malformed, Disagree, ShelfFault, SinkFault, NoMemory}
 
 -- the most bytes of each file
 limit-transcript : transcript_limit ≡ 134217728
@@ -186,3 +190,37 @@ manifest-Member = refl
 manifest-TooLarge : fault_line (Malformed (codes "f") (Manifest (manifest.TooLarge 67112960))) ≡ codes "dcnet: f: malformed: too-large symbols=67112960" ++ 10 ∷ []
 unfolding digits
 manifest-TooLarge = refl
+
+-- ---- nets
+
+status-Disagree : status_of (Disagree (net.KeyMissing 0 2)) ≡ 6
+status-Disagree = refl
+
+line-Disagree : fault_line (Disagree (net.KeyMissing 0 2)) ≡ codes "dcnet: files disagree: key-missing u=0 v=2" ++ 10 ∷ []
+unfolding digits
+line-Disagree = refl
+
+line-ScriptStation : fault_line (Disagree (net.ScriptStation 3 12)) ≡ codes "dcnet: files disagree: script-station round=3 station=12" ++ 10 ∷ []
+unfolding digits
+line-ScriptStation = refl
+
+line-Stream : fault_line (Malformed (codes "a.txt") (Stream (record { line = 1; kind = stream.Length 3839 }))) ≡ codes "dcnet: a.txt: malformed: line=1 length seen=3839" ++ 10 ∷ []
+unfolding digits
+line-Stream = refl
+
+line-Script : fault_line (Malformed (codes "s.txt") (Script (record { line = 4; kind = script.Late 2 1 }))) ≡ codes "dcnet: s.txt: malformed: line=4 late told=2 round=1" ++ 10 ∷ []
+unfolding digits
+line-Script = refl
+
+-- ---- the words of `replay`
+
+replay-alone : is_form (codes "replay" ∷ codes "net.toml" ∷ []) ≡ true
+replay-alone = refl
+
+replay-workers : is_form (codes "replay" ∷ codes "net.toml" ∷ codes "--workers" ∷ codes "64" ∷ []) ≡ true
+unfolding digits
+replay-workers = refl
+
+replay-too_many : longest_begun (codes "replay" ∷ codes "net.toml" ∷ codes "--workers" ∷ codes "65" ∷ []) ≡ 3
+unfolding digits
+replay-too_many = refl

@@ -1,15 +1,17 @@
 -- The forms of the command line.
-use Rattle.std.specs.Prelude.{String, ℕ, suc, Bool, true, false, not, ◌&&◌, ◌==◌, max, List, [], ◌∷◌, length, map, codes, if◌then◌else◌, fold, Option, None, Some, is_some}
+use Rattle.std.specs.Prelude.{String, ℕ, suc, Bool, true, false, not, ◌&&◌, ◌==◌, max, nat_le, List, [], ◌∷◌, length, map, codes, if◌then◌else◌, fold, Option, None, Some, is_some}
 use Rattle.std.specs.String.{string_bytes}
 use Rattle.std.specs.Str.{bytes_eq}
 use Rattle.std.specs.List.{list_any}
+use Rattle.dc_field.specs.NumberInText.{number_in}
 use Rattle.dc_text.specs.Payload.{payload_in}
 
--- the place of a word in a form: a fixed word, a name, or a seed
+-- the place of a word in a form: a fixed word, a name, a seed, or a number from one to another
 pub data Slot : Type 0 where
   literal : List ℕ → Slot
   name : Slot
   seed_word : Slot
+  number : ℕ → ℕ → Slot
 
 -- a name is not empty and does not begin with `-`
 abbrev pub is_name : List ℕ → Bool
@@ -25,11 +27,21 @@ of_length n (Some bytes) = if length bytes == n then Some bytes else None
 abbrev pub seed_in : List ℕ → Option (List ℕ)
 seed_in word = of_length 32 (payload_in word)
 
--- a word fits a place: it is the fixed word, a name, or a seed
+-- a number, where it is one from low to high
+abbrev pub where_between : ℕ → ℕ → Option ℕ → Option ℕ
+where_between low high None = None
+where_between low high (Some n) = if nat_le low n && nat_le n high then Some n else None
+
+-- the number from low to high that a word spells in decimal, without leading zeros
+abbrev pub number_between : ℕ → ℕ → List ℕ → Option ℕ
+number_between low high word = where_between low high (number_in word)
+
+-- a word fits a place: it is the fixed word, a name, a seed, or a number within its limits
 abbrev pub fits : Slot → List ℕ → Bool
 fits (literal due) word = bytes_eq word due
 fits name word = is_name word
 fits seed_word word = is_some (seed_in word)
+fits (number low high) word = is_some (number_between low high word)
 
 -- how many words from the front fit a form, one by one
 abbrev pub begun : List Slot → List (List ℕ) → ℕ
@@ -58,6 +70,8 @@ forms =
     ∷ (literal (codes "keygen") ∷ keygen_slots)
     ∷ (literal (codes "keygen") ∷ seeds_slots)
     ∷ (literal (codes "migrate") ∷ name ∷ name ∷ [])
+    ∷ (literal (codes "replay") ∷ name ∷ [])
+    ∷ (literal (codes "replay") ∷ name ∷ literal (codes "--workers") ∷ number 1 64 ∷ [])
     ∷ []
 
 -- the words are one of the forms

@@ -1,6 +1,6 @@
 -- The promises of a call in its reader's words; each follows from what the call did by its outcome.
-use Rattle.std.specs.Prelude.{String, ℕ, ◌≡◌, ◌≤◌, ◌⊎◌, List, [], ◌∷◌, ◌++◌, length, false, Option, Some, None, Ok, Err}
-use Rattle.dc_spec.specs.Outside.{ShelfState, SinkState, absent, held, Rose, grown, IsFront}
+use Rattle.std.specs.Prelude.{String, ℕ, ◌≡◌, ◌≤◌, ◌⊎◌, List, [], ◌∷◌, ◌++◌, length, All, false, Option, Some, None, Ok, Err}
+use Rattle.dc_spec.specs.Outside.{ShelfState, SinkState, absent, held, Rose, Tells, grown, IsFront}
 use Rattle.dc_spec.specs.Limits.{transcript_limit, manifest_limit, key_file_limit}
 use Rattle.dc_spec.specs.Pads.{Keys}
 use Rattle.dc_spec.specs.Recorded.{Recorded, IsRecorded, transcript_bytes, superposed}
@@ -14,8 +14,14 @@ use Rattle.dc_manifest.specs.Content.{Content}
 use Rattle.dc_manifest.specs.Reading.{manifest_of}
 use Rattle.dc_superpose.specs.Reading.{transcript_of}
 use Rattle.dc_superpose.specs.declared.fault.TranscriptFault.{TranscriptFault}
+use Rattle.dc_spec.specs.Net.{Net}
+use Rattle.dc_net_files.specs.Steps.{File, Step, needs, makes, names_of, bytes_of}
+use Rattle.dc_net_files.specs.Parts.{net_step}
+use Rattle.dc_net_files.specs.Reading.{AreNeeded}
+use Rattle.dc_net_files.specs.Settled.{AreHeld}
+use Rattle.dc_cli.specs.Replaying.{ViewPrinted}
 use Rattle.dc_cli.specs.Forms.{texts, is_form, longest_begun}
-use Rattle.dc_cli.specs.Commands.{Task, sum, keygen, keygen_seeds, migrate, Spells}
+use Rattle.dc_cli.specs.Commands.{Task, sum, keygen, keygen_seeds, migrate, replay, Spells}
 use Rattle.dc_cli.specs.Summing.{Refused}
 use Rattle.dc_cli.specs.Making.{Making}
 use Rattle.dc_cli.specs.Keygen.{keygen_making}
@@ -40,12 +46,32 @@ abbrev pub call : {F K A : Type 0} → (F → ShelfState) → (K → SinkState) 
 call shelf_state sink_state words shelf shelf' out out' outcome =
     record { words = texts words; shelf = shelf_state shelf; shelf' = shelf_state shelf'; out = sink_state out; out' = sink_state out'; outcome = outcome }
 
+-- the name of the file that a step needs
+abbrev pub next_name : {A : Type 0} → Step A → List (List ℕ)
+next_name (needs name limit) = name ∷ []
+next_name _ = []
+
+-- names of the files of a net: each is needed after those before it, which have the bytes that the shelf reports
+pub record NamesOfNet (net : List ℕ) (shelf : ShelfState) (names : List (List ℕ)) : Type 0 where
+  pub files : List File
+  pub needed : AreNeeded (net_step net) files
+  pub told : All (λ file. Tells (shelf.holds file.name) file.bytes) files
+  pub names_are : names ≡ names_of files ++ next_name (net_step net (bytes_of files))
+
+-- a file of a net that is needed within this limit, after files that have the bytes that the shelf reports
+pub record NeedsOfNet (net : List ℕ) (shelf : ShelfState) (name : List ℕ) (limit : ℕ) : Type 0 where
+  pub files : List File
+  pub needed : AreNeeded (net_step net) files
+  pub told : All (λ file. Tells (shelf.holds file.name) file.bytes) files
+  pub next : net_step net (bytes_of files) ≡ needs name limit
+
 -- the files that a command asks for, in order; by the shelf's state, since a file may name others
 abbrev pub AsksFor : ShelfState → Task → List (List ℕ) → Type 0
 AsksFor shelf (sum file) files = files ≡ file ∷ []
 AsksFor shelf (keygen seed net target) files = files ≡ net ∷ target ∷ []
 AsksFor shelf (keygen_seeds seed net target) files = files ≡ net ∷ target ∷ []
 AsksFor shelf (migrate keys target) files = files ≡ keys ∷ target ∷ []
+AsksFor shelf (replay net workers) files = NamesOfNet net shelf files
 
 -- words that are not a form are refused, and no others are
 pub record RefusesOtherWords (c : Call) : Type 0 where
@@ -64,6 +90,7 @@ Leaves (sum file) outcome before after = after.holds ≡ before.holds
 Leaves (keygen seed net target) outcome before after = LeavesOthers target outcome before after
 Leaves (keygen_seeds seed net target) outcome before after = LeavesOthers target outcome before after
 Leaves (migrate keys target) outcome before after = LeavesOthers target outcome before after
+Leaves (replay net workers) outcome before after = after.holds ≡ before.holds
 
 -- each file stays, unless the command of the words writes it
 pub record KeepsFiles (c : Call) : Type 0 where
@@ -99,6 +126,7 @@ HasLimit shelf (sum file) name limit = (name ≡ file) × (limit ≡ transcript_
 HasLimit shelf (keygen seed net target) name limit = (name ≡ net) × (limit ≡ manifest_limit)
 HasLimit shelf (keygen_seeds seed net target) name limit = (name ≡ net) × (limit ≡ manifest_limit)
 HasLimit shelf (migrate keys target) name limit = (name ≡ keys) × (limit ≡ key_file_limit)
+HasLimit shelf (replay net workers) name limit = NeedsOfNet net shelf name limit
 
 -- the outcome reports a name
 abbrev pub TellsName : Outcome → List ℕ → Type 0
@@ -159,6 +187,7 @@ making_of (sum file) = None
 making_of (keygen seed net target) = Some (keygen_making seed net target)
 making_of (keygen_seeds seed net target) = Some (seeds_making seed net target)
 making_of (migrate keys target) = Some (migrate_making keys target)
+making_of (replay net workers) = None
 
 -- each of these makes its file
 abbrev pub MakesFiles : Call → Type 0
@@ -180,3 +209,14 @@ WritesSeeds c = c.outcome ≡ Done → (seed net target bytes : List ℕ) → Sp
 abbrev pub WritesPads : Call → Type 0
 WritesPads c = c.outcome ≡ Done → (file target bytes : List ℕ) → Spells c.words (migrate file target) → c.shelf.holds file ≡ held bytes →
     (keys : Keys) × (keys_from_bytes bytes ≡ Ok keys) × (c.shelf'.holds target ≡ rewritten (c.shelf.holds target) (keys_bytes keys))
+
+-- where `replay` is done, the view of the run of the net that its files make was printed
+abbrev pub PrintsView : Call → Type 0
+PrintsView c = c.outcome ≡ Done → (net : List ℕ) (workers : ℕ) → Spells c.words (replay net workers) → ViewPrinted net c.shelf c.shelf' c.out c.out'
+
+-- where the shelf holds the files of a net, each of them is needed after those before it, they make a net, and no count of faults
+-- rose, `replay` is done, or memory ran out
+abbrev pub RunsNets : Call → Type 0
+RunsNets c = (net : List ℕ) (workers : ℕ) (files : List File) (made : Net) → Spells c.words (replay net workers) → AreNeeded (net_step net) files →
+    AreHeld c.shelf.holds files → net_step net (bytes_of files) ≡ makes made [] →
+    (Rose c.shelf.faults c.shelf'.faults → ⊥) → (Rose c.out.faults c.out'.faults → ⊥) → (c.outcome ≡ Done) ⊎ (c.outcome ≡ NoMemory)

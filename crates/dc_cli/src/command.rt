@@ -1,9 +1,10 @@
 //! The words of a command line as a command.
 
 ghost use Rattle.std.specs.Prelude.{◌≡◌, ◌∷◌};
-ghost use Rattle.dc_cli.specs.Forms.{texts, is_name as name_test, seed_in};
-ghost use Rattle.dc_cli.specs.Commands.{ReadsAs, ReadsAsFile, ReadsAsKeygen, ReadsAsNames, ReadsAsFlag, ReadsAsMigrate};
+ghost use Rattle.dc_cli.specs.Forms.{texts, is_name as name_test, seed_in, number_between};
+ghost use Rattle.dc_cli.specs.Commands.{ReadsAs, ReadsAsFile, ReadsAsKeygen, ReadsAsNames, ReadsAsFlag, ReadsAsMigrate, ReadsAsReplay, ReadsAsWorkers, ReadsAsCount};
 
+use dc_field::read_decimal;
 use dc_text::{Digits, decode_payload, payload_length};
 
 /// A command with its arguments.
@@ -30,6 +31,11 @@ pub enum Command<'a> {
         keys: &'a str,
         target: &'a str,
     },
+    /// Prints the view of the run of the net that a manifest and its files make, computed by 1 to 64 workers.
+    Replay {
+        net: &'a str,
+        workers: u32,
+    },
 }
 
 /// The command that the words spell, or how many words from the front begin a valid command line, at most.
@@ -49,6 +55,7 @@ fn command_with<'a>(verb: &str, rest: &'a [String]) -> Result<Command<'a>, u32>
         "sum" => sum_of(rest),
         "keygen" => keygen_of(rest),
         "migrate" => migrate_of(rest),
+        "replay" => replay_of(rest),
         _ => Err(0),
     }
 }
@@ -118,6 +125,55 @@ fn migrate_of(names: &[String]) -> Result<Command<'_>, u32>
         [keys, target, _, ..] if is_name(keys.as_str()) && is_name(target.as_str()) => Err(3),
         [keys, ..] if is_name(keys.as_str()) => Err(2),
         _ => Err(1),
+    }
+}
+
+fn replay_of(rest: &[String]) -> Result<Command<'_>, u32>
+    ensures { ReadsAsReplay (texts rest.now) result }
+{
+    match rest {
+        [net, option @ ..] if is_name(net.as_str()) => match workers_of(option) {
+            Ok(workers) => Ok(Command::Replay {
+                net: net.as_str(),
+                workers,
+            }),
+            Err(place) => Err(place),
+        },
+        _ => Err(1),
+    }
+}
+
+/// The number of workers that the words after the name give; 1 where there are none.
+fn workers_of(rest: &[String]) -> Result<u32, u32>
+    ensures { ReadsAsWorkers (texts rest.now) result }
+{
+    match rest {
+        [] => Ok(1),
+        [option, count @ ..] if option.as_str() == "--workers" => count_of(count),
+        _ => Err(2),
+    }
+}
+
+fn count_of(rest: &[String]) -> Result<u32, u32>
+    ensures { ReadsAsCount (texts rest.now) result }
+{
+    match rest {
+        [] => Err(3),
+        [digits, more @ ..] => match number_of(digits.as_str()) {
+            Some(workers) if more.is_empty() => Ok(workers),
+            Some(_) => Err(4),
+            None => Err(3),
+        },
+    }
+}
+
+/// The number from 1 to 64 that a word spells.
+fn number_of(word: &str) -> Option<u32>
+    ensures { result ≡ number_between 1 64 word.now }
+{
+    match read_decimal(word.as_bytes()) {
+        Some(number) if 1 <= number && number <= 64 => Some(number),
+        _ => None,
     }
 }
 

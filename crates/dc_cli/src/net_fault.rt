@@ -47,14 +47,26 @@ fn put_script_kind<E: Sink>(kind: ScriptKind, err: &mut E) -> Result<(), Failed>
         ScriptKind::Header => err.put(b" header"),
         ScriptKind::Form => err.put(b" form"),
         ScriptKind::Round { told, due } => {
-            put_two_numbers(err, b" round told=", u64::from(told), b" due=", u64::from(due))
+            put_two_numbers(
+                err,
+                b" round told=",
+                u64::from(told),
+                b" due=",
+                u64::from(due),
+            )
         }
         ScriptKind::TooMany => err.put(b" too-many"),
         ScriptKind::Misplaced => err.put(b" misplaced"),
         ScriptKind::Order { station } => put_number(err, b" order station=", u64::from(station)),
         ScriptKind::Missing => err.put(b" missing"),
         ScriptKind::Late { told, round } => {
-            put_two_numbers(err, b" late told=", u64::from(told), b" round=", u64::from(round))
+            put_two_numbers(
+                err,
+                b" late told=",
+                u64::from(told),
+                b" round=",
+                u64::from(round),
+            )
         }
         ScriptKind::Unordered => err.put(b" unordered"),
         ScriptKind::Terms => err.put(b" terms"),
@@ -67,10 +79,22 @@ pub fn put_net_fault<E: Sink>(fault: NetFault, err: &mut E) -> Result<(), Failed
 {
     match fault {
         NetFault::KeyStations { told, net } => {
-            put_two_numbers(err, b"key-stations told=", u64::from(told), b" net=", u64::from(net))
+            put_two_numbers(
+                err,
+                b"key-stations told=",
+                u64::from(told),
+                b" net=",
+                u64::from(net),
+            )
         }
         NetFault::KeyWords { told, net } => {
-            put_two_numbers(err, b"key-words told=", u64::from(told), b" net=", u64::from(net))
+            put_two_numbers(
+                err,
+                b"key-words told=",
+                u64::from(told),
+                b" net=",
+                u64::from(net),
+            )
         }
         NetFault::KeyMissing { u, v } => {
             put_two_numbers(err, b"key-missing u=", u64::from(u), b" v=", u64::from(v))
@@ -85,19 +109,43 @@ pub fn put_net_fault<E: Sink>(fault: NetFault, err: &mut E) -> Result<(), Failed
             put_number(err, b"stream-stray station=", u64::from(station))
         }
         NetFault::ScriptRounds { told, net } => {
-            put_two_numbers(err, b"script-rounds told=", u64::from(told), b" net=", u64::from(net))
+            put_two_numbers(
+                err,
+                b"script-rounds told=",
+                u64::from(told),
+                b" net=",
+                u64::from(net),
+            )
         }
         NetFault::ScriptStation { round, station } => {
-            put_two_numbers(err, b"script-station round=", u64::from(round), b" station=", u64::from(station))
+            put_two_numbers(
+                err,
+                b"script-station round=",
+                u64::from(round),
+                b" station=",
+                u64::from(station),
+            )
         }
         NetFault::ScriptDelivery { round } => {
             put_number(err, b"script-delivery round=", u64::from(round))
         }
         NetFault::ScriptRule { round, station } => {
-            put_two_numbers(err, b"script-rule round=", u64::from(round), b" station=", u64::from(station))
+            put_two_numbers(
+                err,
+                b"script-rule round=",
+                u64::from(round),
+                b" station=",
+                u64::from(station),
+            )
         }
         NetFault::NoStation { station, stations } => {
-            put_two_numbers(err, b"no-station station=", u64::from(station), b" stations=", u64::from(stations))
+            put_two_numbers(
+                err,
+                b"no-station station=",
+                u64::from(station),
+                b" stations=",
+                u64::from(stations),
+            )
         }
     }
 }

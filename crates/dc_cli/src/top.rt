@@ -1,8 +1,8 @@
 //! The top call.
 
 ghost use Rattle.dc_cli.specs.Forms.{texts};
-ghost use Rattle.dc_cli.specs.Commands.{task_of};
-ghost use Rattle.dc_cli.specs.Promises.{call, RefusesOtherWords, PrintsSums, Completes, AsksInOrder, TellsTheLast, KeepsFiles, PrintsOnlyWhenDone, MissesTheAbsent, RefusesTheLong, RefusesTheMalformed, TellsTheFault, HasCauses, WritesKeys, WritesSeeds, WritesPads, MakesFiles};
+ghost use Rattle.dc_cli.specs.Commands.{IsRunnable, task_of};
+ghost use Rattle.dc_cli.specs.Promises.{call, RefusesOtherWords, PrintsSums, Completes, AsksInOrder, TellsTheLast, KeepsFiles, PrintsOnlyWhenDone, MissesTheAbsent, RefusesTheLong, RefusesTheMalformed, TellsTheFault, HasCauses, WritesKeys, WritesSeeds, WritesPads, MakesFiles, PrintsView, RunsNets};
 ghost use Rattle.dc_cli.specs.Ran.{Ran, CommandRan, PutsLine};
 
 use crate::command::{Command, command_of};
@@ -11,6 +11,7 @@ use crate::keygen::run_keygen;
 use crate::keygen_seeds::run_keygen_seeds;
 use crate::migrate::run_migrate;
 use crate::outcome::Outcome;
+use crate::replaying::run_replay;
 use crate::summing::run_sum;
 use dc_edge::{Gate, Shelf, Sink};
 use std::alloc::Global;
@@ -62,36 +63,43 @@ pub fn dcnet<R: Threads + Sync, F: Shelf, K: Sink, E: Sink, G: Gate + Sync>(
         (call F.state K.state words.now shelf.old shelf.new out.old out.new result) }
     ensures makes { MakesFiles
         (call F.state K.state words.now shelf.old shelf.new out.old out.new result) }
+    ensures view { PrintsView
+        (call F.state K.state words.now shelf.old shelf.new out.old out.new result) }
+    ensures nets { RunsNets
+        (call F.state K.state words.now shelf.old shelf.new out.old out.new result) }
 {
-    let outcome = run(rt, alloc, words, shelf, out);
+    let outcome = run(rt, alloc, words, shelf, out, gate);
     let _ = put_fault(&outcome, err);
     outcome
 }
 
 /// Runs the command that the words spell.
-fn run<R: Threads + Sync, F: Shelf, K: Sink>(
+fn run<R: Threads + Sync, F: Shelf, K: Sink, G: Gate + Sync>(
     rt: &R,
     alloc: Global,
     words: &[String],
     shelf: &mut F,
     out: &mut K,
+    gate: &G,
 ) -> Outcome
     ensures { Ran (texts words.now) (F.state shelf.old) (F.state shelf.new)
         (K.state out.old) (K.state out.new) result }
 {
     match command_of(words) {
         Err(place) => Outcome::Usage { place },
-        Ok(command) => run_command(rt, alloc, command, shelf, out),
+        Ok(command) => run_command(rt, alloc, command, shelf, out, gate),
     }
 }
 
-fn run_command<R: Threads + Sync, F: Shelf, K: Sink>(
+fn run_command<R: Threads + Sync, F: Shelf, K: Sink, G: Gate + Sync>(
     rt: &R,
     alloc: Global,
     command: Command<'_>,
     shelf: &mut F,
     out: &mut K,
+    gate: &G,
 ) -> Outcome
+    requires { IsRunnable (task_of command) }
     ensures { CommandRan (task_of command.entry) (F.state shelf.old) (F.state shelf.new)
         (K.state out.old) (K.state out.new) result }
 {
@@ -102,5 +110,8 @@ fn run_command<R: Threads + Sync, F: Shelf, K: Sink>(
             run_keygen_seeds(alloc, &seed, net, target, shelf)
         }
         Command::Migrate { keys, target } => run_migrate(rt, alloc, keys, target, shelf),
+        Command::Replay { net, workers } => {
+            run_replay(rt, alloc, net, workers, shelf, out, gate)
+        }
     }
 }

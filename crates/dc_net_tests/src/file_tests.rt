@@ -50,9 +50,10 @@ fn a_row_of_three(rt: HostRuntime) {
     assert_eq!(rt; net.graph.edges(), [(0, 1), (1, 2)].as_slice());
     assert_eq!(rt; net.words, 1);
     assert_eq!(rt; net.keys.pairs.as_slice().len(), 2);
-    for (i, due) in [1usize, 0, 1].iter().enumerate() {
-        match &net.streams.as_slice()[i] {
-            Some(stream) => assert_eq!(rt; stream.coins.as_slice().len(), *due),
+    assert_eq!(rt; net.streams.as_slice().len(), 3);
+    for (stream, coins) in net.streams.as_slice().iter().zip([1usize, 0, 1].iter()) {
+        match stream {
+            Some(stream) => assert_eq!(rt; stream.coins.as_slice().len(), *coins),
             None => panic!(rt; "no stream"),
         }
     }

@@ -1,4 +1,4 @@
-use Rattle.dc_cli.proofs.PromiseLemmas.{RefusesOtherWords-run, PrintsSums-run, Completes-run, AsksInOrder-run, KeepsFiles-run, PrintsOnlyWhenDone-run, MissesTheAbsent-run, RefusesTheLong-run, RefusesTheMalformed-run, TellsTheFault-run, TellsTheLast-run, HasCauses-run, WritesKeys-run, WritesSeeds-run, WritesPads-run, MakesFiles-run}
+use Rattle.dc_cli.proofs.PromiseLemmas.{RefusesOtherWords-run, PrintsSums-run, Completes-run, AsksInOrder-run, KeepsFiles-run, PrintsOnlyWhenDone-run, MissesTheAbsent-run, RefusesTheLong-run, RefusesTheMalformed-run, TellsTheFault-run, TellsTheLast-run, HasCauses-run, WritesKeys-run, WritesSeeds-run, WritesPads-run, MakesFiles-run, PrintsView-run, RunsNets-run}
 use Rattle.dc_cli.proofs.top.dcnet.Goals as goal
 
 pub returns-clause-words : goal.returns-clause-words
@@ -48,3 +48,9 @@ returns-clause-pads g c = WritesPads-run _ c.run-outcome.ensures
 
 pub returns-clause-makes : goal.returns-clause-makes
 returns-clause-makes g c = MakesFiles-run _ c.run-outcome.ensures
+
+pub returns-clause-view : goal.returns-clause-view
+returns-clause-view g c = PrintsView-run _ c.run-outcome.ensures
+
+pub returns-clause-nets : goal.returns-clause-nets
+returns-clause-nets g c = RunsNets-run _ c.run-outcome.ensures
