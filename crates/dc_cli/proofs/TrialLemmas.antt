@@ -3,7 +3,7 @@ use Rattle.std.proofs.Common.{◌≡◌, ◌⊎◌, ℕ, inl, inr, refl}
 use Rattle.dc_spec.specs.Outside.{SinkState, Rose, grown}
 use Rattle.dc_cli.specs.Trials.{summary_of, TrialRan}
 use Rattle.dc_cli.specs.declared.outcome.Outcome.{Outcome}
-use Rattle.dc_cli.specs.declared.outcome.Outcome.TheVariants.{Done, Usage, Missing, TooLong, Malformed, ShelfFault, SinkFault, NoMemory}
+use Rattle.dc_cli.specs.declared.outcome.Outcome.TheVariants.{Done, Usage, SinkFault, NoMemory}
 
 -- it ends in one of three ways
 pub TrialRan-usage : (seed stations words place : ℕ) (o o' : SinkState) → TrialRan seed stations words o o' (Usage place) → ⊥
