@@ -14,6 +14,8 @@ use std::{env, io};
 #[cfg(test)]
 mod key_file_tests;
 #[cfg(test)]
+mod replay_tests;
+#[cfg(test)]
 mod tests;
 
 fn main(rt: HostRuntime) -> ExitCode {

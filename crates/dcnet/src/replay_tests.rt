@@ -1,0 +1,86 @@
+use dc_cli::{dcnet, status};
+use dc_edge::{MemoryShelf, MemorySink, OpenGate};
+use dc_field::NoMemory;
+use std::process::Abort;
+use std::test::Fail;
+use std::thread::Threads;
+
+/// A manifest of one station, for one round.
+const ALONE: &str = "stations = 1
+words = 1
+edges = []
+keys = \"k.bin\"
+streams = [\"a.txt\"]
+";
+
+/// The key file of a net of this number of stations, without pairs, for one word.
+fn keys(stations: u8) -> [u8; 12] {
+    [b'D', b'C', b'K', 1, 0, stations, 0, 1, 0, 0, 0, 0]
+}
+
+/// The view of a station that has nothing to say.
+const VIEW: &[u8] = b"view 1
+net 1 1
+round 0
+word 0 00000000000000000000000000000000000000000000000000000000000000000000000000000000
+sum 00000000000000000000000000000000000000000000000000000000000000000000000000000000
+all
+got 0 00000000000000000000000000000000000000000000000000000000000000000000000000000000
+";
+
+/// Asserts how `replay` ends over a shelf that holds the manifest, a key file and a stream.
+fn check<R: Threads + Sync + AllocGlobal + Abort>(
+    rt: &R,
+    words: &[&str],
+    stations: u8,
+    due: u8,
+    printed: &[u8],
+    told: &[u8],
+) -> Result<(), NoMemory> {
+    let alloc = rt.alloc();
+    let mut shelf = MemoryShelf::new(alloc, &[])?;
+    shelf.hold(alloc, "net.toml", ALONE.as_bytes())?;
+    shelf.hold(alloc, "k.bin", &keys(stations))?;
+    shelf.hold(alloc, "a.txt", b"")?;
+    let mut out = MemorySink::new(alloc, 1000, &[])?;
+    let mut err = MemorySink::new(alloc, 1000, &[])?;
+    let mut line = Vec::new(alloc);
+    for word in words {
+        line.push(String::from_str(alloc, word)?)?;
+    }
+    let outcome = dcnet(rt, alloc, &line, &mut shelf, &mut out, &mut err, &OpenGate);
+    assert_eq!(rt; status(&outcome), due);
+    assert_eq!(rt; out.bytes(), printed);
+    assert_eq!(rt; err.bytes(), told);
+    Ok(())
+}
+
+#[test]
+fn views(rt: HostRuntime) -> Result<(), Fail> {
+    check(&rt, &["replay", "net.toml"], 1, 0, VIEW, b"")?;
+    check(
+        &rt,
+        &["replay", "net.toml", "--workers", "2"],
+        1,
+        0,
+        VIEW,
+        b"",
+    )?;
+    Ok(())
+}
+
+#[test]
+fn refusals(rt: HostRuntime) -> Result<(), Fail> {
+    let differ = b"dcnet: files disagree: key-stations told=2 net=1\n";
+    check(&rt, &["replay", "net.toml"], 2, 6, b"", differ)?;
+    let usage = b"dcnet: usage: word 3\n";
+    check(
+        &rt,
+        &["replay", "net.toml", "--workers", "65"],
+        1,
+        2,
+        b"",
+        usage,
+    )?;
+    Ok(())
+}
