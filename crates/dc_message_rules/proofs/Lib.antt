@@ -5,3 +5,6 @@ pub mod SentGroups
 pub mod Parting
 pub mod Trees
 pub mod Growing
+pub mod Counting
+pub mod SentEpochs
+pub mod Delivered
