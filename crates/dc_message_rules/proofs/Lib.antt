@@ -8,3 +8,4 @@ pub mod Growing
 pub mod Counting
 pub mod SentEpochs
 pub mod Delivered
+pub mod Markers
