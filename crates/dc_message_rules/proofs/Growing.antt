@@ -1,16 +1,16 @@
 -- A word of an epoch that the called stations send: the tree goes on to hold the values, and its leaves are right.
-use Rattle.std.proofs.Common.{◌≡◌, ℕ, zero, suc, ◌+◌, ◌-◌, ◌<◌, ◌≤◌, ◌&&◌, ◌==◌, not, if◌then◌else◌, Bool, true, false, cond, nat_lt, nat_le, List, [], ◌∷◌, ◌++◌, length, All, Option, Some, None, Result, Ok, Err, option_map, refl, sym, ◌∙◌, ap, ap₂, subst, inl, inr, arith, true≢false, eq-eqb}
+use Rattle.std.proofs.Common.{◌≡◌, ℕ, ◌+◌, ◌≤◌, ◌&&◌, ◌==◌, not, if◌then◌else◌, Bool, true, false, cond, nat_lt, nat_le, List, [], ◌∷◌, ◌++◌, All, Option, Some, None, Result, Ok, option_map, refl, sym, ◌∙◌, ap, ap₂, subst, arith, eq-eqb}
 use Rattle.std.specs.Option.{option_or, is_some}
-use Rattle.std.proofs.lemmas.Bool.{cases_Bool, ne_eqb, ltb-false, ltb-true}
+use Rattle.std.proofs.lemmas.Bool.{ne_eqb, ltb-false, ltb-true}
 use Rattle.std.proofs.lemmas.Option.{none-some}
 use Rattle.dc_spec.specs.Values.{IsValue, number_of}
-use Rattle.dc_spec.specs.Groups.{Group, group_of}
+use Rattle.dc_spec.specs.Groups.{Group}
 use Rattle.dc_spec.proofs.Options.{some-inj}
 use Rattle.dc_station_rules.specs.Epochs.{Leaf, EpochFault, Tree, unsplit, equal_values, parts, leaf_of, mean_of, split_by, with_left, with_right, put, Ranged, current, come_out}
-use Rattle.dc_station_rules.proofs.Putting.{put-closed, put-parts}
+use Rattle.dc_station_rules.proofs.Putting.{put-closed}
 use Rattle.dc_message_rules.specs.Tallies.{tally, values_group}
 use Rattle.dc_message_rules.specs.Shares.{is_within, IsLeaf, Covers}
-use Rattle.dc_message_rules.proofs.Trees.{at_mean, Holds, IsAnswer, Grown, split-holds, some-at_mean, all-at_mean, range-leaf}
+use Rattle.dc_message_rules.proofs.Trees.{at_mean, Holds, IsAnswer, split-holds, some-at_mean, all-at_mean, range-leaf}
 use Rattle.dc_message_rules.proofs.Tallies.{tally-splits}
 use Rattle.dc_message_rules.proofs.Parting.{splits-low}
 

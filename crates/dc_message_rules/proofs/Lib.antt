@@ -5,3 +5,7 @@ pub mod SentGroups
 pub mod Parting
 pub mod Trees
 pub mod Growing
+pub mod Counting
+pub mod SentEpochs
+pub mod Delivered
+pub mod Markers

@@ -1,5 +1,5 @@
 -- A group of values without the part of it that sends again, and the mean of a group.
-use Rattle.std.proofs.Common.{◌≡◌, ℕ, zero, suc, ◌+◌, ◌-◌, ◌*◌, ◌/◌, ◌%◌, ◌<◌, ◌≤◌, ◌&&◌, ◌||◌, ◌==◌, not, Bool, true, false, cond, nat_lt, nat_le, List, [], ◌∷◌, length, get_or, slice_index, sum_by, All, Option, Some, None, Ok, Err, refl, sym, ◌∙◌, ap, ap₂, subst, arith, ◌^◌, mul-zero, mul_comm, add-mul, suc-mul, pow-suc, mul-le-mul_right, true≢false}
+use Rattle.std.proofs.Common.{◌≡◌, ℕ, zero, suc, ◌+◌, ◌-◌, ◌*◌, ◌/◌, ◌%◌, ◌<◌, ◌≤◌, ◌&&◌, ◌||◌, ◌==◌, not, Bool, true, false, cond, nat_lt, nat_le, List, [], ◌∷◌, length, slice_index, sum_by, All, Option, None, Ok, Err, refl, sym, ◌∙◌, ap, ap₂, subst, arith, ◌^◌, mul-zero, mul_comm, add-mul, suc-mul, pow-suc, mul-le-mul_right, true≢false}
 use Rattle.std.proofs.lemmas.Nat.{mod_below}
 use Rattle.std.proofs.Math.Nat.{div-add-mod, mul-div_cancel_left, mul-mod_right}
 use Rattle.std.proofs.lemmas.Bool.{le-ltb, ne_eqb, eq-eqb, leb-false, leb-true}
@@ -77,10 +77,6 @@ is-mean t c some =
     let turn = mul_comm c (t / c) in
     let more = add-mul (t / c) 1 c in
     record { most = omega arith; next = omega arith }
-
-
-
-
 
 low_or_more : (q b : Bool) (f m : ℕ) → (b ≡ false → m < f) → cond q (m + 1) 0 ≤ cond q f 0 + cond (q && b) (m + 1) 0
 low_or_more false b f m high = omega arith

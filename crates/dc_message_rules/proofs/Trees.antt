@@ -1,19 +1,15 @@
 -- The tree of an epoch in which each word is what the called stations send: its groups are those of the values in
 -- their ranges.
-use Rattle.std.proofs.Common.{◌≡◌, ℕ, zero, suc, ◌+◌, ◌-◌, ◌*◌, ◌/◌, ◌<◌, ◌≤◌, min, max, ◌&&◌, ◌==◌, not, Bool, true, false, cond, nat_lt, nat_le, List, [], ◌∷◌, ◌++◌, length, All, Option, Some, None, Result, Ok, Err, option_map, refl, sym, ◌∙◌, ap, ap₂, subst, inl, inr, arith, true≢false, eq-eqb}
-use Rattle.std.specs.Option.{option_or, is_some}
-use Rattle.std.proofs.lemmas.Bool.{cases_Bool, and_parts, ne_eqb, le-leb, leb-true, leb-false, lt-leb, ltb-false, ltb-true, le-ltb, eqb-true}
-use Rattle.std.proofs.lemmas.Option.{none-some}
+use Rattle.std.proofs.Common.{◌≡◌, ℕ, zero, suc, ◌+◌, ◌/◌, ◌<◌, ◌≤◌, min, max, ◌&&◌, ◌==◌, not, Bool, true, false, cond, nat_le, List, [], ◌∷◌, All, Option, Result, Ok, refl, sym, ◌∙◌, ap, ap₂, subst, inl, inr, arith, true≢false, eq-eqb}
+use Rattle.std.proofs.lemmas.Bool.{cases_Bool, and_parts, le-leb, leb-true, leb-false, lt-leb, eqb-true}
 use Rattle.std.proofs.lemmas.List.Elements.{All-head, All-tail}
 use Rattle.std.proofs.lemmas.List.Sums.{sum_by-cons}
 use Rattle.dc_spec.specs.Values.{IsValue, number_of}
-use Rattle.dc_spec.specs.Groups.{Group, GroupFault, SplitFault, group_of, minus, total, uneven_limb}
+use Rattle.dc_spec.specs.Groups.{Group, GroupFault, SplitFault, group_of, uneven_limb}
 use Rattle.dc_spec.proofs.Booleans.{test-same}
-use Rattle.dc_spec.proofs.Options.{some-inj}
-use Rattle.dc_station_rules.specs.Epochs.{Leaf, EpochFault, Tree, unsplit, equal_values, parts, leaf_of, mean_of, equal_or_fault, two_parts, split_or_fault, split_by_group, split_by, with_left, with_right, put, Ranged, current, come_out}
-use Rattle.dc_station_rules.proofs.Putting.{put-closed, put-parts}
+use Rattle.dc_station_rules.specs.Epochs.{EpochFault, Tree, unsplit, equal_values, parts, leaf_of, mean_of, equal_or_fault, two_parts, split_or_fault, split_by_group, split_by, Ranged}
 use Rattle.dc_message_rules.specs.Tallies.{tally, values_group}
-use Rattle.dc_message_rules.specs.Shares.{is_within, IsLeaf, Covers}
+use Rattle.dc_message_rules.specs.Shares.{is_within, IsLeaf}
 use Rattle.dc_message_rules.proofs.Tallies.{tally-splits}
 use Rattle.dc_message_rules.proofs.Parting.{parted, group-total, IsMean, is-mean, some-low, splits-low, all-low, all-mean, same-number, equal-even, equal-divided}
 
@@ -143,10 +139,13 @@ two-parts values are a b some more =
     let begins : a ≤ m = (let x = low_in.0 in omega arith) in
     let ends : m < b = (let x = high_in.1 in let y = leb-false (number_of high.value) m (not-true (nat_le (number_of high.value) m) high_is.1) in omega arith) in
     let left : values_group p values ≡ values_group (is_within a m) values = λ k. values_group (λ v. below_same a b m ends v k) values in
-    let right : values_group r values ≡ values_group (is_within (m + 1) b) values = λ k. values_group (λ v. above_same a b m begins v k) values in
-    (m, begins, ends,
+    let right : values_group r values ≡ values_group (is_within (m + 1) b) values = λ k. values_group (λ v. above_same a b m begins v k) values in (
+      m,
+      begins,
+      ends,
       (refl, (let e : min b m ≡ m = omega arith in e), left, subst (λ (n : ℕ). 1 ≤ n) (ap (λ (g : Group). g.count) left) (some-at_mean q values are some)),
-      ((let e : max a (m + 1) ≡ m + 1 = omega arith in e), refl, right, subst (λ (n : ℕ). 1 ≤ n) (ap (λ (g : Group). g.count) right) more))
+      ((let e : max a (m + 1) ≡ m + 1 = omega arith in e), refl, right, subst (λ (n : ℕ). 1 ≤ n) (ap (λ (g : Group). g.count) right) more),
+    )
   where
     not-true : (b : Bool) → not b ≡ true → b ≡ false
     not-true false is = refl

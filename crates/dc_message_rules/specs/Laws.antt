@@ -1,10 +1,13 @@
 -- Laws of messages: what holds of a net without a coalition.
-use Rattle.std.specs.Prelude.{ℕ, ◌<◌, ◌≤◌, ◌≡◌, [], take, slice_index_or}
+use Rattle.std.specs.Prelude.{ℕ, ◌<◌, ◌≤◌, ◌≡◌, true, List, [], length, take, slice_index_or, All}
+use Rattle.dc_spec.specs.Values.{IsValue}
 use Rattle.dc_spec.specs.Net.{Net}
+use Rattle.dc_station_rules.specs.Epochs.{Leaf, EpochFault, void_epoch, epoch_of, leaves, is_over}
 use Rattle.dc_station_rules.specs.Stations.{log_of}
 use Rattle.dc_net_rules.specs.Nets.{IsNet}
 use Rattle.dc_net_rules.specs.Runs.{history, rounds_of, run_of}
 use Rattle.dc_message_rules.specs.PlainSums.{plain_sum}
+use Rattle.dc_message_rules.specs.SentEpochs.{AreSent, Delivers}
 
 -- what a station received in the first rounds is the sums of these rounds
 abbrev pub HistoriesAreSums : Type 0
@@ -24,3 +27,17 @@ LogsAgree =
     (net : Net) → IsNet net → net.coalition ≡ [] → (t : ℕ) → t ≤ net.words
     → (i j : ℕ) → i < net.stations → j < net.stations
     → log_of (history (rounds_of net t) i) ≡ log_of (history (rounds_of net t) j)
+
+-- an epoch in which up to 256 stations send their values where it calls for them is never void
+abbrev pub EpochsStand : Type 0
+EpochsStand =
+    (values : List (List ℕ)) → All IsValue values → length values ≤ 256
+    → (words : List (List ℕ)) → AreSent values words
+    → (out : List Leaf) (fault : EpochFault) → epoch_of words ≡ void_epoch out fault → ⊥
+
+-- and once it is over it has delivered the values: in rising order, each as often as it was sent
+abbrev pub EpochsDeliver : Type 0
+EpochsDeliver =
+    (values : List (List ℕ)) → All IsValue values → length values ≤ 256
+    → (words : List (List ℕ)) → AreSent values words → is_over (epoch_of words) ≡ true
+    → Delivers values (leaves (epoch_of words))

@@ -1,4 +1,5 @@
 pub mod PlainSums
 pub mod Tallies
 pub mod Shares
+pub mod SentEpochs
 pub mod Laws

@@ -1,6 +1,6 @@
 //! Laws of messages. The functions do nothing; each one's contract is a law.
 
-ghost use Rattle.dc_message_rules.specs.Laws.{HistoriesAreSums, SumsArePlain, LogsAgree};
+ghost use Rattle.dc_message_rules.specs.Laws.{HistoriesAreSums, SumsArePlain, LogsAgree, EpochsStand, EpochsDeliver};
 
 /// Without a coalition each station receives the sums of the rounds.
 pub fn histories_are_sums()
@@ -15,4 +15,14 @@ pub fn sums_are_plain()
 /// Without a coalition all stations have one log after each round.
 pub fn logs_agree()
     ensures { LogsAgree }
+{}
+
+/// An epoch in which stations send their values where it calls for them is never void.
+pub fn epochs_stand()
+    ensures { EpochsStand }
+{}
+
+/// Such an epoch delivers the values in rising order, each as often as it was sent.
+pub fn epochs_deliver()
+    ensures { EpochsDeliver }
 {}

@@ -3,4 +3,4 @@
 
 mod laws;
 
-pub use laws::{histories_are_sums, logs_agree, sums_are_plain};
+pub use laws::{epochs_deliver, epochs_stand, histories_are_sums, logs_agree, sums_are_plain};
