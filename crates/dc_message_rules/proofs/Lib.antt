@@ -9,3 +9,6 @@ pub mod Counting
 pub mod SentEpochs
 pub mod Delivered
 pub mod Markers
+pub mod BurstWords
+pub mod Firsts
+pub mod Balance
