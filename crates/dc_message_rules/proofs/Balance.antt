@@ -50,7 +50,7 @@ fit-after : (s : Stream) (cycles : List Cycle) → All IsValue s.shorts × All I
 fit-after s [] is = is
 fit-after s (cycle ∷ cycles) is = fit-after (left_by s cycle) cycles (fit-left s cycle is)
 
-fit-pending : (streams : List Stream) (words : List (List ℕ)) → AreFit streams → AreFit (all_pending streams words)
+pub fit-pending : (streams : List Stream) (words : List (List ℕ)) → AreFit streams → AreFit (all_pending streams words)
 fit-pending streams words fit =
     let size = length-map streams (λ (s : Stream). at_cycle s words) in
     let most = fit.few in
@@ -80,7 +80,7 @@ none-over : is_over (epoch_of []) ≡ false
 unfolding epoch_of
 none-over = refl
 
-next-starts : (pending : List Stream) (fields : List ℕ) → All (λ field. HasMarker field pending) fields → IsNext pending fields []
+pub next-starts : (pending : List Stream) (fields : List ℕ) → All (λ field. HasMarker field pending) fields → IsNext pending fields []
 next-starts pending [] are = (λ front word rest is. absurd (nothing-front front word rest is), none-over)
 next-starts pending (field ∷ fields) are =
     let m = All-head (λ f. HasMarker f pending) field fields are in
@@ -103,26 +103,26 @@ opened-holds : (pending : List Stream) → AreFit pending → CycleHolds pending
 opened-holds pending fit = let markers = granted-markers pending fit in record { markers = markers; next = next-starts pending (granted (mark_sum pending)) markers }
 
 -- the words at a place
-place_sum : List Stream → Place → List ℕ
+pub place_sum : List Stream → Place → List ℕ
 place_sum pending place = word_sum (map (λ (s : Stream). word_for s place) pending)
 
 map-twice : {A B C : Type 0} (f : B → C) (g : A → B) (xs : List A) → map f (map g xs) ≡ map (λ x. f (g x)) xs
 map-twice f g [] = refl
 map-twice f g (x ∷ xs) = ap (λ ys. f (g x) ∷ ys) (map-twice f g xs)
 
-session-place : (streams : List Stream) (words : List (List ℕ)) → session_sum streams words ≡ place_sum (all_pending streams words) (place_in (history_of words).begun)
+pub session-place : (streams : List Stream) (words : List (List ℕ)) → session_sum streams words ≡ place_sum (all_pending streams words) (place_in (history_of words).begun)
 unfolding plain_word place_sum
 session-place streams words = ap word_sum (sym (map-twice (λ (s : Stream). word_for s (place_in (history_of words).begun)) (λ (s : Stream). at_cycle s words) streams))
 
-reserved-sum : (pending : List Stream) → place_sum pending (place_in None) ≡ mark_sum pending
+pub reserved-sum : (pending : List Stream) → place_sum pending (place_in None) ≡ mark_sum pending
 unfolding word_for place_sum
 reserved-sum pending = refl
 
-burst-place : (pending : List Stream) (cycle : Cycle) (field : ℕ) (fields : List ℕ) → fields_left cycle ≡ field ∷ fields → place_sum pending (place_in (Some cycle)) ≡ burst_sum pending field (length cycle.since)
+pub burst-place : (pending : List Stream) (cycle : Cycle) (field : ℕ) (fields : List ℕ) → fields_left cycle ≡ field ∷ fields → place_sum pending (place_in (Some cycle)) ≡ burst_sum pending field (length cycle.since)
 unfolding word_for place_sum
 burst-place pending cycle field fields left = ap (λ (fs : List ℕ). place_sum pending (place_among fs cycle.since)) left
 
-epoch-place : (pending : List Stream) (cycle : Cycle) → fields_left cycle ≡ [] → place_sum pending (place_in (Some cycle)) ≡ epoch_sum (firsts pending) cycle.since
+pub epoch-place : (pending : List Stream) (cycle : Cycle) → fields_left cycle ≡ [] → place_sum pending (place_in (Some cycle)) ≡ epoch_sum (firsts pending) cycle.since
 unfolding word_for place_sum
 epoch-place pending cycle left = ap (λ (fs : List ℕ). place_sum pending (place_among fs cycle.since)) left ∙ epoch-words pending cycle.since
 
@@ -132,11 +132,11 @@ pub record Balanced (streams : List Stream) (words : List (List ℕ)) : Type 0 w
   pub cycle_holds : (cycle : Cycle) → (history_of words).begun ≡ Some cycle → CycleHolds (all_pending streams words) cycle
 
 -- a stream, for what holds of all
-no_stream : Stream
+pub no_stream : Stream
 no_stream = record { shorts = []; longs = []; coins = [] }
 
 -- the state of a history whose whole cycles stay
-same-state : (streams : List Stream) (words after : List (List ℕ)) (cycle : Cycle) → history_of after ≡ record { whole = (history_of words).whole; begun = Some cycle } → CycleHolds (all_pending streams words) cycle
+pub same-state : (streams : List Stream) (words after : List (List ℕ)) (cycle : Cycle) → history_of after ≡ record { whole = (history_of words).whole; begun = Some cycle } → CycleHolds (all_pending streams words) cycle
     → (other : Cycle) → (history_of after).begun ≡ Some other → CycleHolds (all_pending streams after) other
 same-state streams words after cycle is holds other begun =
     let same : cycle ≡ other = some-inj (sym (ap (λ (h : History). h.begun) is) ∙ begun) in
@@ -144,13 +144,13 @@ same-state streams words after cycle is holds other begun =
     (subst (λ (whole : List Cycle). CycleHolds (map (λ (s : Stream). left_after s whole) streams) cycle) (sym (ap (λ (h : History). h.whole) is)) holds)
 
 -- where nothing is logged or sent
-same-balance : (streams : List Stream) (words after : List (List ℕ)) → log_of after ≡ log_of words → ((s : Stream) → sent_of s after ≡ sent_of s words) → Balanced streams words → (x : Message)
+pub same-balance : (streams : List Stream) (words after : List (List ℕ)) → log_of after ≡ log_of words → ((s : Stream) → sent_of s after ≡ sent_of s words) → Balanced streams words → (x : Message)
     → count_in x (log_of after) ≡ sum_by (λ (s : Stream). count_in x (sent_of s after)) streams
 same-balance streams words after log sent held x =
     ap (count_in x) log ∙ held.balance x ∙ sym (total-same (λ (s : Stream). count_in x (sent_of s after)) (λ (s : Stream). count_in x (sent_of s words)) streams (λ k d within. ap (count_in x) (sent (get_or streams k d))))
 
 -- where something is
-more-balance : (streams : List Stream) (words after : List (List ℕ)) (entries : List Entry) (more : Stream → List Entry) → log_of after ≡ log_of words ++ entries
+pub more-balance : (streams : List Stream) (words after : List (List ℕ)) (entries : List Entry) (more : Stream → List Entry) → log_of after ≡ log_of words ++ entries
     → ((s : Stream) → sent_of s after ≡ sent_of s words ++ more s) → Balanced streams words → (x : Message) → count_in x entries ≡ sum_by (λ (s : Stream). count_in x (more s)) streams
     → count_in x (log_of after) ≡ sum_by (λ (s : Stream). count_in x (sent_of s after)) streams
 more-balance streams words after entries more log sent held x same =
@@ -160,7 +160,7 @@ more-balance streams words after entries more log sent held x same =
     ∙ total-plus (λ (s : Stream). count_in x (sent_of s words)) (λ (s : Stream). count_in x (more s)) streams)
 
 -- a reservation word
-reserve-step : (streams : List Stream) (words : List (List ℕ)) → AreFit streams → Balanced streams words → (history_of words).begun ≡ None → Balanced streams (words ++ session_sum streams words ∷ [])
+pub reserve-step : (streams : List Stream) (words : List (List ℕ)) → AreFit streams → Balanced streams words → (history_of words).begun ≡ None → Balanced streams (words ++ session_sum streams words ∷ [])
 reserve-step streams words fit held none =
     let word = session_sum streams words in
     let after = words ++ word ∷ [] in
@@ -171,3 +171,8 @@ reserve-step streams words fit held none =
       balance = same-balance streams words after all.log (λ s. (reserves s words word none).sent) held;
       cycle_holds = same-state streams words after (opened word) all.history (subst (λ (w : List ℕ). CycleHolds pending (opened w)) (sym is) (opened-holds pending (fit-pending streams words fit)));
     }
+
+-- the markers of the fields after the next one
+pub left-markers : (pending : List Stream) (cycle : Cycle) (field : ℕ) (fields : List ℕ) → fields_left cycle ≡ field ∷ fields → CycleHolds pending cycle → All (λ f. HasMarker f pending) fields
+left-markers pending cycle field fields left holds = All-tail (λ f. HasMarker f pending) field fields
+    (subst (λ (fs : List ℕ). All (λ f. HasMarker f pending) fs) left (All-drop (λ f. HasMarker f pending) (length cycle.bursts) (granted cycle.reservation) holds.markers))

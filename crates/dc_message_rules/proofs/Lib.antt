@@ -12,3 +12,4 @@ pub mod Markers
 pub mod BurstWords
 pub mod Firsts
 pub mod Balance
+pub mod BurstSteps
