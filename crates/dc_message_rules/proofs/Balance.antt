@@ -1,36 +1,26 @@
 -- After each round the log holds each message as often as it was sent.
-use Rattle.std.proofs.Common.{◌≡◌, ℕ, zero, suc, ◌+◌, ◌<◌, ◌≤◌, ◌==◌, Bool, true, false, cond, List, [], ◌∷◌, ◌++◌, length, map, drop, filter, get_or, slice_index, sum_by, All, Option, Some, None, if◌then◌else◌, refl, sym, ◌∙◌, ap, ap₂, subst, inl, inr, arith, true≢false, append_assoc, length-append, eqb-true, eq-eqb}
-use Rattle.std.specs.Str.{bytes_eq}
+use Rattle.std.proofs.Common.{◌≡◌, ℕ, ◌+◌, ◌<◌, ◌≤◌, ◌==◌, false, List, [], ◌∷◌, ◌++◌, length, map, get_or, slice_index, sum_by, All, Option, Some, None, refl, sym, ◌∙◌, ap, ap₂, subst, arith, length-append, eqb-true}
 use Rattle.std.specs.List.{range_with_len}
-use Rattle.std.proofs.lemmas.Bool.{cases_Bool}
-use Rattle.std.proofs.lemmas.Option.{none-some}
-use Rattle.std.proofs.lemmas.List.{append-nil, length-map}
-use Rattle.std.proofs.lemmas.Slice.Eq.{bytes_eq-Decides}
-use Rattle.std.proofs.lemmas.List.Elements.{All-nil, All-cons, All-head, All-tail, All-drop, All-map, All-filter, filter_passes}
+use Rattle.std.proofs.lemmas.List.{length-map}
+use Rattle.std.proofs.lemmas.List.Elements.{All-head, All-tail, All-drop, All-map, All-filter, filter_passes}
 use Rattle.std.proofs.lemmas.List.FromFn.{get_or-range_with_len, length-range_with_len}
-use Rattle.std.proofs.lemmas.List.Sums.{sum_by-cons, sum_by-append}
+use Rattle.std.proofs.lemmas.List.Sums.{sum_by-append}
 use Rattle.dc_spec.specs.Words.{word_sum}
-use Rattle.dc_spec.specs.Entries.{Entry, short, long, IsMessage, Stream}
+use Rattle.dc_spec.specs.Entries.{Entry, IsMessage, Stream}
 use Rattle.dc_spec.specs.Values.{IsValue}
 use Rattle.dc_spec.proofs.Options.{some-inj}
-use Rattle.dc_spec.proofs.SumLemmas.{sum_by-map}
-use Rattle.dc_station_rules.specs.Bursts.{IsMessageBurst, Burst, burst_of, fragments, has_ended, message_of}
-use Rattle.dc_station_rules.specs.Epochs.{Leaf, epoch_of, leaves, leaves_at, is_over}
-use Rattle.dc_station_rules.specs.Cycles.{Cycle, History, granted, fields_left, opened, with_epoch, Place, in_burst, in_epoch, place_in, place_among, history_of}
-use Rattle.dc_station_rules.specs.Stations.{leaf_entry, log_of, marked, next_mark, gave_message, first_short, shorts_sent, left_by, left_after, sent_of, word_for, plain_word, cycle_leaves}
-use Rattle.dc_station_rules.proofs.CycleSteps.{epoch-leaves}
-use Rattle.dc_station_rules.proofs.MessageBursts.{fragments-give, front-goes}
-use Rattle.dc_station_rules.proofs.MoreLeaves.{leaves-push}
-use Rattle.dc_station_rules.proofs.StationSteps.{at_cycle, since_then, with_ended, sent_by, Reserves, reserves, BurstGoesOn, burst_goes_on, BurstEnds, burst_ends, EpochTakes, epoch_takes}
-use Rattle.dc_net_rules.specs.Bags.{Message, value, text, times_in, count_in}
-use Rattle.dc_message_rules.specs.Shares.{Covers}
+use Rattle.dc_station_rules.specs.Bursts.{fragments}
+use Rattle.dc_station_rules.specs.Epochs.{epoch_of, is_over}
+use Rattle.dc_station_rules.specs.Cycles.{Cycle, History, granted, fields_left, opened, Place, place_in, place_among, history_of}
+use Rattle.dc_station_rules.specs.Stations.{log_of, left_by, left_after, sent_of, word_for, plain_word}
+use Rattle.dc_station_rules.proofs.StationSteps.{at_cycle, reserves}
+use Rattle.dc_net_rules.specs.Bags.{Message, times_in, count_in}
 use Rattle.dc_message_rules.specs.SentEpochs.{epoch_sum, AreSent}
-use Rattle.dc_message_rules.specs.Sessions.{session_sum, AreSums}
-use Rattle.dc_message_rules.proofs.Tallies.{total-same, total-plus, total-zero}
-use Rattle.dc_message_rules.proofs.Markers.{at_mark, by_mark, HaveMessages, HasMarker, one-marker, mark_sum, mark_sum-symbol}
-use Rattle.dc_message_rules.proofs.SentEpochs.{sent-sound, Reached, sound-reached}
-use Rattle.dc_message_rules.proofs.BurstWords.{burst_sum, burst-next, some-fragment}
-use Rattle.dc_message_rules.proofs.Firsts.{firsts, HaveValues, firsts-values, firsts-few, epoch-words, shorts_count, leaves-balance}
+use Rattle.dc_message_rules.specs.Sessions.{session_sum}
+use Rattle.dc_message_rules.proofs.Tallies.{total-same, total-plus}
+use Rattle.dc_message_rules.proofs.Markers.{HaveMessages, HasMarker, one-marker, mark_sum, mark_sum-symbol}
+use Rattle.dc_message_rules.proofs.BurstWords.{burst_sum, some-fragment}
+use Rattle.dc_message_rules.proofs.Firsts.{firsts, HaveValues, epoch-words}
 
 -- streams of values and messages
 pub record AreFit (streams : List Stream) : Type 0 where
@@ -106,7 +96,7 @@ opened-holds pending fit = let markers = granted-markers pending fit in record {
 pub place_sum : List Stream → Place → List ℕ
 place_sum pending place = word_sum (map (λ (s : Stream). word_for s place) pending)
 
-map-twice : {A B C : Type 0} (f : B → C) (g : A → B) (xs : List A) → map f (map g xs) ≡ map (λ x. f (g x)) xs
+pub map-twice : {A B C : Type 0} (f : B → C) (g : A → B) (xs : List A) → map f (map g xs) ≡ map (λ x. f (g x)) xs
 map-twice f g [] = refl
 map-twice f g (x ∷ xs) = ap (λ ys. f (g x) ∷ ys) (map-twice f g xs)
 

@@ -1,20 +1,19 @@
 -- A word of a burst: the log and the lists of sent entries gain the same.
-use Rattle.std.proofs.Common.{◌≡◌, ℕ, ◌+◌, ◌==◌, Bool, true, false, cond, List, [], ◌∷◌, ◌++◌, length, map, get_or, sum_by, Option, Some, None, if◌then◌else◌, refl, sym, ◌∙◌, ap, subst, append_assoc}
-use Rattle.std.specs.Str.{bytes_eq}
+use Rattle.std.proofs.Common.{◌≡◌, ℕ, ◌==◌, Bool, true, false, cond, List, [], ◌∷◌, ◌++◌, map, get_or, sum_by, Option, Some, if◌then◌else◌, refl, sym, ◌∙◌, ap, subst, append_assoc}
 use Rattle.std.specs.Option.{option_to_list}
 use Rattle.std.proofs.lemmas.Slice.Eq.{bytes_eq-Decides}
 use Rattle.dc_spec.specs.Entries.{Entry, long, Stream}
 use Rattle.dc_spec.proofs.SumLemmas.{sum_by-map}
-use Rattle.dc_station_rules.specs.Bursts.{Burst, burst_of, fragments, has_ended, message_of}
+use Rattle.dc_station_rules.specs.Bursts.{burst_of, fragments, has_ended, message_of}
 use Rattle.dc_station_rules.specs.Cycles.{Cycle, fields_left, place_in, history_of}
-use Rattle.dc_station_rules.specs.Stations.{log_of, marked, next_mark, gave_message, sent_of}
+use Rattle.dc_station_rules.specs.Stations.{marked, next_mark, gave_message}
 use Rattle.dc_station_rules.proofs.MessageBursts.{fragments-give, front-goes}
-use Rattle.dc_station_rules.proofs.StationSteps.{at_cycle, since_then, with_ended, sent_by, BurstGoesOn, burst_goes_on, BurstEnds, burst_ends}
+use Rattle.dc_station_rules.proofs.StationSteps.{at_cycle, since_then, with_ended, sent_by, burst_goes_on, burst_ends}
 use Rattle.dc_net_rules.specs.Bags.{Message, count_in}
 use Rattle.dc_message_rules.specs.Sessions.{session_sum}
 use Rattle.dc_message_rules.proofs.Tallies.{total-same}
 use Rattle.dc_message_rules.proofs.Markers.{at_mark, by_mark, HasMarker}
-use Rattle.dc_message_rules.proofs.BurstWords.{burst_sum, burst-next}
+use Rattle.dc_message_rules.proofs.BurstWords.{burst-next}
 use Rattle.dc_message_rules.proofs.Balance.{AreFit, all_pending, IsNext, CycleHolds, next-starts, place_sum, session-place, burst-place, Balanced, no_stream, same-state, same-balance, more-balance, left-markers}
 
 -- what a station's first message counts where a burst gave a message

@@ -1,20 +1,19 @@
 -- The first pending values of stations: what they send in an epoch, and which of them count as sent.
-use Rattle.std.proofs.Common.{◌≡◌, ℕ, zero, suc, ◌+◌, ◌*◌, ◌%◌, ◌<◌, ◌≤◌, ◌&&◌, Bool, true, false, cond, List, [], ◌∷◌, ◌++◌, length, map, take, get_or, slice_index, sum_by, All, if◌then◌else◌, refl, sym, ◌∙◌, ap, subst, arith, length-append}
+use Rattle.std.proofs.Common.{◌≡◌, ℕ, ◌+◌, ◌%◌, ◌<◌, ◌≤◌, ◌&&◌, Bool, true, false, cond, List, [], ◌∷◌, length, map, take, get_or, slice_index, sum_by, All, if◌then◌else◌, refl, sym, ◌∙◌, ap, arith, length-append}
 use Rattle.std.specs.Str.{bytes_eq}
 use Rattle.std.specs.List.{list_any, flat_map}
-use Rattle.std.proofs.lemmas.List.Elements.{All-nil, All-cons, All-head, All-tail, All-append, All-take}
+use Rattle.std.proofs.lemmas.List.Elements.{All-nil, All-head, All-tail, All-append, All-take}
 use Rattle.std.proofs.lemmas.List.Sums.{sum_by-cons, sum_by-append}
 use Rattle.dc_spec.specs.Words.{zero_word, word_sum}
-use Rattle.dc_spec.specs.Entries.{Entry, short, Stream}
+use Rattle.dc_spec.specs.Entries.{short, Stream}
 use Rattle.dc_spec.specs.Values.{IsValue, contended_word}
 use Rattle.dc_spec.proofs.SumLemmas.{sum_by-map}
 use Rattle.dc_spec.proofs.WordLemmas.{symbol-word_of, word_of-same}
 use Rattle.dc_station_rules.specs.Epochs.{Leaf, Epoch, epoch_of, calls}
 use Rattle.dc_station_rules.specs.Stations.{leaf_entry, is_leaf_of, first_short, epoch_word}
 use Rattle.dc_net_rules.specs.Bags.{Message, value, text, times_in, count_in}
-use Rattle.dc_message_rules.specs.Tallies.{tally}
 use Rattle.dc_message_rules.specs.Shares.{Covers}
-use Rattle.dc_message_rules.specs.SentEpochs.{epoch_sum, times_of_value}
+use Rattle.dc_message_rules.specs.SentEpochs.{epoch_sum}
 use Rattle.dc_message_rules.proofs.Tallies.{total-same, total-zero}
 use Rattle.dc_message_rules.proofs.Counting.{reaches, covers-count, covers-any}
 

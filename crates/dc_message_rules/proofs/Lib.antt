@@ -13,3 +13,6 @@ pub mod BurstWords
 pub mod Firsts
 pub mod Balance
 pub mod BurstSteps
+pub mod EpochSteps
+pub mod SessionBalance
+pub mod NetBalance
