@@ -9,3 +9,10 @@ pub mod Counting
 pub mod SentEpochs
 pub mod Delivered
 pub mod Markers
+pub mod BurstWords
+pub mod Firsts
+pub mod Balance
+pub mod BurstSteps
+pub mod EpochSteps
+pub mod SessionBalance
+pub mod NetBalance

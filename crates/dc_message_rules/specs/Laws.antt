@@ -1,11 +1,13 @@
 -- Laws of messages: what holds of a net without a coalition.
-use Rattle.std.specs.Prelude.{ℕ, ◌<◌, ◌≤◌, ◌≡◌, true, List, [], length, take, slice_index_or, All}
+use Rattle.std.specs.Prelude.{ℕ, ◌<◌, ◌≤◌, ◌≡◌, true, List, [], length, take, slice_index_or, sum_by, All}
+use Rattle.std.specs.List.{range_with_len}
 use Rattle.dc_spec.specs.Values.{IsValue}
 use Rattle.dc_spec.specs.Net.{Net}
 use Rattle.dc_station_rules.specs.Epochs.{Leaf, EpochFault, void_epoch, epoch_of, leaves, is_over}
-use Rattle.dc_station_rules.specs.Stations.{log_of}
+use Rattle.dc_station_rules.specs.Stations.{log_of, sent_of}
+use Rattle.dc_net_rules.specs.Bags.{Message, count_in}
 use Rattle.dc_net_rules.specs.Nets.{IsNet}
-use Rattle.dc_net_rules.specs.Runs.{history, rounds_of, run_of}
+use Rattle.dc_net_rules.specs.Runs.{history, rounds_of, run_of, station_stream}
 use Rattle.dc_message_rules.specs.PlainSums.{plain_sum}
 use Rattle.dc_message_rules.specs.SentEpochs.{AreSent, Delivers}
 
@@ -41,3 +43,13 @@ EpochsDeliver =
     (values : List (List ℕ)) → All IsValue values → length values ≤ 256
     → (words : List (List ℕ)) → AreSent values words → is_over (epoch_of words) ≡ true
     → Delivers values (leaves (epoch_of words))
+
+-- after each round, each station's log has each message as often as it is in the lists of what all
+-- stations sent together
+abbrev pub MessagesBalance : Type 0
+MessagesBalance =
+    (net : Net) → IsNet net → net.coalition ≡ [] → (t : ℕ) → t ≤ net.words
+    → (i : ℕ) → i < net.stations → (message : Message)
+    → count_in message (log_of (history (rounds_of net t) i))
+    ≡ sum_by (λ j. count_in message (sent_of (station_stream net j) (history (rounds_of net t) j)))
+    (range_with_len 0 net.stations)

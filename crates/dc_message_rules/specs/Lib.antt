@@ -2,4 +2,5 @@ pub mod PlainSums
 pub mod Tallies
 pub mod Shares
 pub mod SentEpochs
+pub mod Sessions
 pub mod Laws

@@ -1,6 +1,6 @@
 //! Laws of messages. The functions do nothing; each one's contract is a law.
 
-ghost use Rattle.dc_message_rules.specs.Laws.{HistoriesAreSums, SumsArePlain, LogsAgree, EpochsStand, EpochsDeliver};
+ghost use Rattle.dc_message_rules.specs.Laws.{HistoriesAreSums, SumsArePlain, LogsAgree, EpochsStand, EpochsDeliver, MessagesBalance};
 
 /// Without a coalition each station receives the sums of the rounds.
 pub fn histories_are_sums()
@@ -25,4 +25,10 @@ pub fn epochs_stand()
 /// Such an epoch delivers the values in rising order, each as often as it was sent.
 pub fn epochs_deliver()
     ensures { EpochsDeliver }
+{}
+
+/// Without a coalition, after each round, each station's log has each message exactly as often as all
+/// stations together have sent it.
+pub fn messages_balance()
+    ensures { MessagesBalance }
 {}

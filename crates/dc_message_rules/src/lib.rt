@@ -3,4 +3,6 @@
 
 mod laws;
 
-pub use laws::{epochs_deliver, epochs_stand, histories_are_sums, logs_agree, sums_are_plain};
+pub use laws::{
+    epochs_deliver, epochs_stand, histories_are_sums, logs_agree, messages_balance, sums_are_plain,
+};
