@@ -63,7 +63,7 @@ pub record CycleHolds (pending : List Stream) (cycle : Cycle) : Type 0 where
   pub next : IsNext pending (fields_left cycle) cycle.since
 
 -- no word sent yet
-nothing-front : (front : List (List ℕ)) (word : List ℕ) (rest : List (List ℕ)) → [] ≡ front ++ word ∷ rest → ⊥
+pub nothing-front : (front : List (List ℕ)) (word : List ℕ) (rest : List (List ℕ)) → [] ≡ front ++ word ∷ rest → ⊥
 nothing-front front word rest is = let size = ap (λ (ws : List (List ℕ)). length ws) is ∙ length-append front (word ∷ rest) in absurd (omega arith)
 
 none-over : is_over (epoch_of []) ≡ false

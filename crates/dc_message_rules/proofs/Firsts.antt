@@ -1,4 +1,5 @@
 -- The first pending values of stations: what they send in an epoch, and which of them count as sent.
+pub use Rattle.dc_message_rules.specs.Undisturbed.{first_values as firsts}
 use Rattle.std.proofs.Common.{◌≡◌, ℕ, ◌+◌, ◌%◌, ◌<◌, ◌≤◌, ◌&&◌, Bool, true, false, cond, List, [], ◌∷◌, length, map, take, get_or, slice_index, sum_by, All, if◌then◌else◌, refl, sym, ◌∙◌, ap, arith, length-append}
 use Rattle.std.specs.Str.{bytes_eq}
 use Rattle.std.specs.List.{list_any, flat_map}
@@ -16,10 +17,6 @@ use Rattle.dc_message_rules.specs.Shares.{Covers}
 use Rattle.dc_message_rules.specs.SentEpochs.{epoch_sum}
 use Rattle.dc_message_rules.proofs.Tallies.{total-same, total-zero}
 use Rattle.dc_message_rules.proofs.Counting.{reaches, covers-count, covers-any}
-
--- the first pending value of each station that has one
-abbrev pub firsts : List Stream → List (List ℕ)
-firsts streams = flat_map (λ (s : Stream). take 1 s.shorts) streams
 
 -- a sum over pieces
 pub total-flat : {A B : Type 0} (f : B → ℕ) (g : A → List B) (xs : List A) → sum_by f (flat_map g xs) ≡ sum_by (λ x. sum_by f (g x)) xs

@@ -16,3 +16,4 @@ pub mod BurstSteps
 pub mod EpochSteps
 pub mod SessionBalance
 pub mod NetBalance
+pub mod Undisturbed
