@@ -40,17 +40,20 @@ fit-after : (s : Stream) (cycles : List Cycle) → All IsValue s.shorts × All I
 fit-after s [] is = is
 fit-after s (cycle ∷ cycles) is = fit-after (left_by s cycle) cycles (fit-left s cycle is)
 
-pub fit-pending : (streams : List Stream) (words : List (List ℕ)) → AreFit streams → AreFit (all_pending streams words)
-fit-pending streams words fit =
-    let size = length-map streams (λ (s : Stream). at_cycle s words) in
+pub fit-before : (streams : List Stream) (before : List Cycle) → AreFit streams → AreFit (map (λ (s : Stream). left_after s before) streams)
+fit-before streams before fit =
+    let size = length-map streams (λ (s : Stream). left_after s before) in
     let most = fit.few in
     record {
-      values = All-map (λ (s : Stream). All IsValue s.shorts) (λ (s : Stream). at_cycle s words) streams
-          (λ k d within. (fit-after (get_or streams k d) (history_of words).whole (fit.values k d within, fit.messages k d within)).0);
-      messages = All-map (λ (s : Stream). All IsMessage s.longs) (λ (s : Stream). at_cycle s words) streams
-          (λ k d within. (fit-after (get_or streams k d) (history_of words).whole (fit.values k d within, fit.messages k d within)).1);
+      values = All-map (λ (s : Stream). All IsValue s.shorts) (λ (s : Stream). left_after s before) streams
+          (λ k d within. (fit-after (get_or streams k d) before (fit.values k d within, fit.messages k d within)).0);
+      messages = All-map (λ (s : Stream). All IsMessage s.longs) (λ (s : Stream). left_after s before) streams
+          (λ k d within. (fit-after (get_or streams k d) before (fit.values k d within, fit.messages k d within)).1);
       few = omega arith;
     }
+
+pub fit-pending : (streams : List Stream) (words : List (List ℕ)) → AreFit streams → AreFit (all_pending streams words)
+fit-pending streams words fit = fit-before streams (history_of words).whole fit
 
 -- what comes next in a cycle: the rest of the burst of a field that one station marked, or an epoch in progress
 abbrev pub IsNext : List Stream → List ℕ → List (List ℕ) → Type 0

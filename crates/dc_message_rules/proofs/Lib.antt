@@ -17,3 +17,4 @@ pub mod EpochSteps
 pub mod SessionBalance
 pub mod NetBalance
 pub mod Undisturbed
+pub mod NetCycles

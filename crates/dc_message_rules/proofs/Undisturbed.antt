@@ -1,5 +1,5 @@
 -- In a session without a coalition no burst and no epoch is disturbed.
-use Rattle.std.proofs.Common.{◌≡◌, ℕ, ◌+◌, ◌⊎◌, Bool, true, false, List, [], ◌∷◌, ◌++◌, length, map, Option, Some, None, if◌then◌else◌, refl, sym, ◌∙◌, ap, ap₂, subst, inl, inr, arith, append_assoc}
+use Rattle.std.proofs.Common.{◌≡◌, ℕ, Bool, true, false, List, [], ◌∷◌, ◌++◌, length, map, Option, Some, None, if◌then◌else◌, refl, sym, ◌∙◌, ap, subst, inl, inr, arith, append_assoc}
 use Rattle.std.specs.List.{AllByRecursion}
 use Rattle.std.specs.Option.{option_to_list}
 use Rattle.std.proofs.lemmas.Option.{none-some}
@@ -8,7 +8,7 @@ use Rattle.dc_spec.specs.Entries.{Stream}
 use Rattle.dc_spec.proofs.Options.{some-inj}
 use Rattle.dc_station_rules.specs.Bursts.{IsMessageBurst, burst_of, fragments, has_ended}
 use Rattle.dc_station_rules.specs.Epochs.{epoch_of, is_over}
-use Rattle.dc_station_rules.specs.Cycles.{Cycle, History, cycles, fields_left, opened, with_epoch, words_of_epoch, place_among, place_in, epoch_words, history_of}
+use Rattle.dc_station_rules.specs.Cycles.{Cycle, History, fields_left, opened, words_of_epoch, place_among, place_in, epoch_words, history_of}
 use Rattle.dc_station_rules.specs.Stations.{left_after}
 use Rattle.dc_station_rules.proofs.CycleSteps.{no-epoch_words, no-words}
 use Rattle.dc_station_rules.proofs.MessageBursts.{fragments-give, front-goes}
@@ -18,7 +18,7 @@ use Rattle.dc_message_rules.specs.Sessions.{session_sum, AreSums}
 use Rattle.dc_message_rules.specs.Undisturbed.{first_values, IsUndisturbed, AreUndisturbed}
 use Rattle.dc_message_rules.proofs.Markers.{HasMarker}
 use Rattle.dc_message_rules.proofs.BurstWords.{burst-next}
-use Rattle.dc_message_rules.proofs.Balance.{AreFit, all_pending, IsNext, CycleHolds, nothing-front, place_sum, session-place, burst-place, epoch-place, Balanced, no_stream}
+use Rattle.dc_message_rules.proofs.Balance.{AreFit, all_pending, IsNext, nothing-front, place_sum, session-place, burst-place, epoch-place, Balanced, no_stream}
 use Rattle.dc_message_rules.proofs.EpochSteps.{split-last, sent-push}
 use Rattle.dc_message_rules.proofs.SessionBalance.{start, step, none-begun}
 
