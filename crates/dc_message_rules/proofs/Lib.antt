@@ -18,3 +18,4 @@ pub mod SessionBalance
 pub mod NetBalance
 pub mod Undisturbed
 pub mod NetCycles
+pub mod Lengths

@@ -14,6 +14,8 @@ use Rattle.dc_message_rules.specs.SentEpochs.{Delivers}
 use Rattle.dc_message_rules.specs.Undisturbed.{first_values, IsUndisturbed}
 use Rattle.dc_message_rules.proofs.Deliveries.{histories-sums}
 use Rattle.dc_message_rules.proofs.Delivered.{epochs-stand, epochs-deliver}
+use Rattle.dc_message_rules.specs.SentEpochs.{epoch_length}
+use Rattle.dc_message_rules.proofs.Lengths.{epoch-lengths}
 use Rattle.dc_message_rules.proofs.Firsts.{firsts-values, firsts-few}
 use Rattle.dc_message_rules.proofs.Balance.{fit-before, map-twice}
 use Rattle.dc_message_rules.proofs.NetBalance.{net_streams, fit-net, first-sums}
@@ -52,3 +54,10 @@ epochs-rise net is none t le i low before cycle after e over =
     subst (λ (streams : List Stream). Delivers (first_values streams) (leaves (epoch_of (epoch_words cycle))))
     (map-twice (λ (s : Stream). left_after s before) (station_stream net) (range_with_len 0 net.stations))
     (epochs-deliver (first_values (pending_before net before)) (are-values net is before) (few-values net is before) (epoch_words cycle) clean.epoch over)
+
+pub net-lengths : (net : Net) → IsNet net → net.coalition ≡ [] → (t : ℕ) → t ≤ net.words → (i : ℕ) → i < net.stations → (before : List Cycle) (cycle : Cycle) (after : List Cycle)
+    → cycles (history_of (history (rounds_of net t) i)) ≡ before ++ cycle ∷ after → is_over (epoch_of (epoch_words cycle)) ≡ true
+    → length (epoch_words cycle) ≡ epoch_length (leaves (epoch_of (epoch_words cycle)))
+net-lengths net is none t le i low before cycle after e over =
+    let clean = net-cycle net is none t le i low before cycle after e in
+    epoch-lengths (first_values (pending_before net before)) (are-values net is before) (few-values net is before) (epoch_words cycle) clean.epoch over

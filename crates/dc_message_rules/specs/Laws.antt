@@ -9,7 +9,7 @@ use Rattle.dc_net_rules.specs.Bags.{Message, count_in}
 use Rattle.dc_net_rules.specs.Nets.{IsNet}
 use Rattle.dc_net_rules.specs.Runs.{history, rounds_of, run_of, station_stream}
 use Rattle.dc_message_rules.specs.PlainSums.{plain_sum}
-use Rattle.dc_message_rules.specs.SentEpochs.{AreSent, Delivers}
+use Rattle.dc_message_rules.specs.SentEpochs.{AreSent, Delivers, epoch_length}
 use Rattle.dc_message_rules.specs.Undisturbed.{first_values}
 use Rattle.dc_station_rules.specs.Bursts.{IsMessageBurst}
 use Rattle.dc_station_rules.specs.Cycles.{Cycle, cycles, epoch_words, history_of}
@@ -78,3 +78,13 @@ EpochsRise =
     → is_over (epoch_of (epoch_words cycle)) ≡ true
     → Delivers (first_values (map (λ j. left_after (station_stream net j) before)
     (range_with_len 0 net.stations))) (leaves (epoch_of (epoch_words cycle)))
+
+-- and it takes one word for each leaf, and one more for each that two stations or more sent; or one
+-- word where nobody sends
+abbrev pub EpochLengths : Type 0
+EpochLengths =
+    (net : Net) → IsNet net → net.coalition ≡ [] → (t : ℕ) → t ≤ net.words
+    → (i : ℕ) → i < net.stations → (before : List Cycle) (cycle : Cycle) (after : List Cycle)
+    → cycles (history_of (history (rounds_of net t) i)) ≡ before ++ cycle ∷ after
+    → is_over (epoch_of (epoch_words cycle)) ≡ true
+    → length (epoch_words cycle) ≡ epoch_length (leaves (epoch_of (epoch_words cycle)))

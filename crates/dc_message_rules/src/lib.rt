@@ -4,6 +4,6 @@
 mod laws;
 
 pub use laws::{
-    epochs_deliver, epochs_rise, epochs_stand, histories_are_sums, logs_agree, messages_balance,
-    nothing_is_void, sums_are_plain,
+    epoch_lengths, epochs_deliver, epochs_rise, epochs_stand, histories_are_sums, logs_agree,
+    messages_balance, nothing_is_void, sums_are_plain,
 };
