@@ -111,7 +111,8 @@ pub reserved-sum : (pending : List Stream) → place_sum pending (place_in None)
 unfolding word_for place_sum
 reserved-sum pending = refl
 
-pub burst-place : (pending : List Stream) (cycle : Cycle) (field : ℕ) (fields : List ℕ) → fields_left cycle ≡ field ∷ fields → place_sum pending (place_in (Some cycle)) ≡ burst_sum pending field (length cycle.since)
+pub burst-place : (pending : List Stream) (cycle : Cycle) (field : ℕ) (fields : List ℕ) → fields_left cycle ≡ field ∷ fields
+    → place_sum pending (place_in (Some cycle)) ≡ burst_sum pending field (length cycle.since)
 unfolding word_for place_sum
 burst-place pending cycle field fields left = ap (λ (fs : List ℕ). place_sum pending (place_among fs cycle.since)) left
 
@@ -129,7 +130,8 @@ pub no_stream : Stream
 no_stream = record { shorts = []; longs = []; coins = [] }
 
 -- the state of a history whose whole cycles stay
-pub same-state : (streams : List Stream) (words after : List (List ℕ)) (cycle : Cycle) → history_of after ≡ record { whole = (history_of words).whole; begun = Some cycle } → CycleHolds (all_pending streams words) cycle
+pub same-state : (streams : List Stream) (words after : List (List ℕ)) (cycle : Cycle) → history_of after ≡ record { whole = (history_of words).whole; begun = Some cycle }
+    → CycleHolds (all_pending streams words) cycle
     → (other : Cycle) → (history_of after).begun ≡ Some other → CycleHolds (all_pending streams after) other
 same-state streams words after cycle is holds other begun =
     let same : cycle ≡ other = some-inj (sym (ap (λ (h : History). h.begun) is) ∙ begun) in
@@ -153,7 +155,8 @@ more-balance streams words after entries more log sent held x same =
     ∙ total-plus (λ (s : Stream). count_in x (sent_of s words)) (λ (s : Stream). count_in x (more s)) streams)
 
 -- a reservation word
-pub reserve-step : (streams : List Stream) (words : List (List ℕ)) → AreFit streams → Balanced streams words → (history_of words).begun ≡ None → Balanced streams (words ++ session_sum streams words ∷ [])
+pub reserve-step : (streams : List Stream) (words : List (List ℕ)) → AreFit streams → Balanced streams words → (history_of words).begun ≡ None
+    → Balanced streams (words ++ session_sum streams words ∷ [])
 reserve-step streams words fit held none =
     let word = session_sum streams words in
     let after = words ++ word ∷ [] in

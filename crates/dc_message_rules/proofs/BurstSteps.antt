@@ -20,7 +20,8 @@ use Rattle.dc_message_rules.proofs.Balance.{AreFit, all_pending, IsNext, CycleHo
 abbrev pub given_count : Message → List ℕ → List ℕ → ℕ
 given_count x got message = count_in x (map long (if gave_message message (Some got) then message ∷ [] else []))
 
-sent-mark : (x : Message) (got : List ℕ) (field : ℕ) (longs : List (List ℕ)) (coins : List ℕ) → count_in x (map long (sent_by longs (next_mark longs coins) field (Some got))) ≡ by_mark field (given_count x got) longs coins
+sent-mark : (x : Message) (got : List ℕ) (field : ℕ) (longs : List (List ℕ)) (coins : List ℕ)
+    → count_in x (map long (sent_by longs (next_mark longs coins) field (Some got))) ≡ by_mark field (given_count x got) longs coins
 sent-mark x got field [] coins = refl
 sent-mark x got field (m ∷ longs) [] = refl
 sent-mark x got field (m ∷ longs) (c ∷ coins) = by_field (c == field)

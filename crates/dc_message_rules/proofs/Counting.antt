@@ -68,7 +68,8 @@ times_one : (c : Bool) (n : ℕ) → cond {A = ℕ} c 1 0 * n ≡ cond c n 0
 times_one true n = omega arith
 times_one false n = omega arith
 
-leaf-tally : (values : List (List ℕ)) (leaf : Leaf) (x : List ℕ) → IsLeaf values leaf → tally (λ v. bytes_eq x v && is_within leaf.low leaf.high v) (λ v. 1) values ≡ cond (bytes_eq x leaf.value) leaf.times 0
+leaf-tally : (values : List (List ℕ)) (leaf : Leaf) (x : List ℕ) → IsLeaf values leaf
+    → tally (λ v. bytes_eq x v && is_within leaf.low leaf.high v) (λ v. 1) values ≡ cond (bytes_eq x leaf.value) leaf.times 0
 leaf-tally values leaf x is =
     let c = bytes_eq x leaf.value in
     let w = is_within leaf.low leaf.high in

@@ -23,7 +23,8 @@ use Rattle.dc_message_rules.proofs.Balance.{AreFit, fit-pending, all_pending, Is
 too-long : {A : Type 0} (x f : A) (front : List A) (y : A) (rest : List A) → x ∷ [] ≡ f ∷ front ++ y ∷ rest → ⊥
 too-long {A} x f front y rest e = let size = ap (λ (ws : List A). length ws) e in let parts = length-append front (y ∷ rest) in absurd (omega arith)
 
-pub split-last : {A : Type 0} (xs : List A) (x : A) (front : List A) (y : A) (rest : List A) → xs ++ x ∷ [] ≡ front ++ y ∷ rest → ((front ≡ xs) × (y ≡ x)) ⊎ ((more : List A) × (xs ≡ front ++ y ∷ more))
+pub split-last : {A : Type 0} (xs : List A) (x : A) (front : List A) (y : A) (rest : List A) → xs ++ x ∷ [] ≡ front ++ y ∷ rest
+    → ((front ≡ xs) × (y ≡ x)) ⊎ ((more : List A) × (xs ≡ front ++ y ∷ more))
 split-last {A} [] x [] y rest e = inl (refl, ap (λ (l : List A). slice_index_or l 0 x) (sym e))
 split-last [] x (f ∷ front) y rest e = absurd (too-long x f front y rest e)
 split-last {A} (z ∷ xs) x [] y rest e = inr (xs, ap (λ (w : A). w ∷ xs) (ap (λ (l : List A). slice_index_or l 0 z) e))
@@ -91,8 +92,10 @@ leaves-more streams words word cycle fit begun left sent more x =
     cancel a b c d sum same = omega arith
 
 -- the state after the word
-epoch-state : (streams : List Stream) (words after : List (List ℕ)) (cycle : Cycle) (since : List (List ℕ)) → fields_left cycle ≡ [] → history_of after ≡ with_epoch (history_of words).whole cycle since
-    → CycleHolds (all_pending streams words) cycle → AreSent (firsts (all_pending streams words)) since → (other : Cycle) → (history_of after).begun ≡ Some other → CycleHolds (all_pending streams after) other
+epoch-state : (streams : List Stream) (words after : List (List ℕ)) (cycle : Cycle) (since : List (List ℕ)) → fields_left cycle ≡ []
+    → history_of after ≡ with_epoch (history_of words).whole cycle since
+    → CycleHolds (all_pending streams words) cycle → AreSent (firsts (all_pending streams words)) since → (other : Cycle) → (history_of after).begun ≡ Some other
+        → CycleHolds (all_pending streams after) other
 epoch-state streams words after cycle since left is holds sent = by_end (is_over (epoch_of since)) refl is
   where
     by_end : (b : Bool) → is_over (epoch_of since) ≡ b → history_of after

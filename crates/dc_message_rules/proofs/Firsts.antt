@@ -45,7 +45,8 @@ firsts-few [] = omega arith
 firsts-few (s ∷ ss) = let one = one_first s.shorts in let rest = firsts-few ss in let size = length-append (take 1 s.shorts) (firsts ss) in omega arith
 
 -- the words of an epoch
-epoch-symbol : (shorts : List (List ℕ)) (e : Epoch) (l : ℕ) → l < 16 → slice_index (epoch_word shorts e) l ≡ sum_by (λ v. slice_index (if calls v e then contended_word v 1 else zero_word) l) (take 1 shorts)
+epoch-symbol : (shorts : List (List ℕ)) (e : Epoch) (l : ℕ) → l < 16
+    → slice_index (epoch_word shorts e) l ≡ sum_by (λ v. slice_index (if calls v e then contended_word v 1 else zero_word) l) (take 1 shorts)
 epoch-symbol [] e l few = symbol-word_of (λ _. 0) l few
 epoch-symbol (v ∷ vs) e l few = let one = sum_by-cons (λ u. slice_index (if calls u e then contended_word u 1 else zero_word) l) v [] in omega arith
 
@@ -84,7 +85,8 @@ first-count y out (v ∷ vs) = by_leaf (list_any (is_leaf_of v) out) (bytes_eq y
         neither false = refl
 
 -- the leaves of an epoch hold each message as often as the stations' values count as sent by them
-pub leaves-balance : (streams : List Stream) (out : List Leaf) (e : ℕ) → Covers (firsts streams) 0 out e → (x : Message) → count_in x (map leaf_entry out) ≡ sum_by (λ (s : Stream). shorts_count x out s.shorts) streams
+pub leaves-balance : (streams : List Stream) (out : List Leaf) (e : ℕ) → Covers (firsts streams) 0 out e → (x : Message)
+    → count_in x (map leaf_entry out) ≡ sum_by (λ (s : Stream). shorts_count x out s.shorts) streams
 leaves-balance streams out e covers (text b) =
     sum_by-map (times_in (text b)) leaf_entry out ∙ total-zero out
     ∙ sym (total-same (λ (s : Stream). shorts_count (text b) out s.shorts) (λ (s : Stream). 0) streams (λ k d within. none-count b out (get_or streams k d).shorts) ∙ total-zero streams)

@@ -37,7 +37,8 @@ choice : (b : Bool) (w : List ℕ) (l : ℕ) → l < 16 → slice_index (if b th
 choice true w l few = refl
 choice false w l few = zero-symbol l few
 
-pub burst-symbol : (longs : List (List ℕ)) (coins : List ℕ) (field i l : ℕ) → l < 16 → slice_index (burst_word (next_mark longs coins) field longs i) l ≡ by_mark field (fragment_symbol i l) longs coins
+pub burst-symbol : (longs : List (List ℕ)) (coins : List ℕ) (field i l : ℕ) → l < 16
+    → slice_index (burst_word (next_mark longs coins) field longs i) l ≡ by_mark field (fragment_symbol i l) longs coins
 burst-symbol [] coins field i l few = zero-symbol l few
 burst-symbol (m ∷ longs) [] field i l few = zero-symbol l few
 burst-symbol (m ∷ longs) (c ∷ coins) field i l few = choice (c == field) (long_word (m ∷ longs) i) l few

@@ -68,7 +68,8 @@ open-is (Some place) goes_on = (place, refl)
 -- a root of count 0 is closed
 closed : (t : Tree) (group : Group) → t ≡ unsplit group 0 last_number → group.count ≡ 0 → is_none (current t) ≡ true
 unfolding current
-closed t group is zero_is = ap (λ (u : Tree). is_none (current u)) is ∙ ap (λ (c : Bool). is_none {T = Ranged} (cond c None (Some (record { group = group; low = 0; high = last_number })))) (lt-ltb group.count 2 (omega arith))
+closed t group is zero_is = ap (λ (u : Tree). is_none (current u)) is
+    ∙ ap (λ (c : Bool). is_none {T = Ranged} (cond c None (Some (record { group = group; low = 0; high = last_number })))) (lt-ltb group.count 2 (omega arith))
 
 tree-sound : (values : List (List ℕ)) → All IsValue values → length values ≤ 256 → (t : Tree) → Sound values (resolving t) → is_none (current t) ≡ false
     → Sound values (grown_tree t (put (sent_sum (λ v. calls v (resolving t)) values) t))

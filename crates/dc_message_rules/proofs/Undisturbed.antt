@@ -127,7 +127,8 @@ step-clean streams words held clean = by_begun (history_of words).begun refl
         by_left [] left = epoch-clean streams words held clean cycle begun left
         by_left (field ∷ fields) left = burst-clean streams words held clean cycle field fields begun left
 
-rounds-clean : (streams : List Stream) → AreFit streams → (words before : List (List ℕ)) → AreSums streams (before ++ words) → Balanced streams before → Clean streams before → Clean streams (before ++ words)
+rounds-clean : (streams : List Stream) → AreFit streams → (words before : List (List ℕ)) → AreSums streams (before ++ words) → Balanced streams before → Clean streams before
+    → Clean streams (before ++ words)
 rounds-clean streams fit [] before are held clean = subst (Clean streams) (sym (append-nil before)) clean
 rounds-clean streams fit (word ∷ words) before are held clean =
     let assoc : (before ++ word ∷ []) ++ words ≡ before ++ word ∷ words = append_assoc before (word ∷ []) words in
@@ -157,7 +158,8 @@ session-undisturbed streams fit words are before cycle after e = by_begun (histo
     clean : Clean streams words
     clean = rounds-clean streams fit words [] are (start streams) (start-clean streams)
 
-    by_begun : (o : Option Cycle) → (history_of words).begun ≡ o → (history_of words).whole ++ option_to_list o ≡ before ++ cycle ∷ after → IsUndisturbed (map (λ (s : Stream). left_after s before) streams) cycle
+    by_begun : (o : Option Cycle) → (history_of words).begun ≡ o → (history_of words).whole ++ option_to_list o ≡ before ++ cycle ∷ after
+        → IsUndisturbed (map (λ (s : Stream). left_after s before) streams) cycle
     by_begun None is e = clean.whole before cycle after (sym (append-nil (history_of words).whole) ∙ e)
     by_begun (Some c) is e = elim (split-last (history_of words).whole c before cycle after e) [
       | inl last ↦ subst (λ (w : List Cycle). IsUndisturbed (map (λ (s : Stream). left_after s w) streams) cycle) (sym last.0)

@@ -1,4 +1,5 @@
--- A cycle that nobody disturbs: each burst is that of a message, and in its epoch each word is what the stations send.
+-- A cycle that nobody disturbs: each burst is that of a message, and in its epoch each word is what
+-- the stations send.
 use Rattle.std.specs.Prelude.{ℕ, ◌≡◌, List, ◌∷◌, ◌++◌, map, take}
 use Rattle.std.specs.List.{flat_map, AllByRecursion}
 use Rattle.dc_spec.specs.Entries.{Stream}

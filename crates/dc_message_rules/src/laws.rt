@@ -32,8 +32,8 @@ pub fn nothing_is_void()
     ensures { NothingIsVoid }
 {}
 
-/// Without a coalition each whole epoch delivers the values sent in its root in rising order, each as
-/// often as it was sent there.
+/// Without a coalition each whole epoch delivers the values sent in its root in rising order, each
+/// as often as it was sent there.
 pub fn epochs_rise()
     ensures { EpochsRise }
 {}
@@ -44,8 +44,8 @@ pub fn epoch_lengths()
     ensures { EpochLengths }
 {}
 
-/// Without a coalition, after each round, each station's log has each message exactly as often as all
-/// stations together have sent it.
+/// Without a coalition, after each round, each station's log has each message exactly as often as
+/// all stations together have sent it.
 pub fn messages_balance()
     ensures { MessagesBalance }
 {}

@@ -1,4 +1,4 @@
-//! The law of messages as definitions: what all stations of a net without a coalition send and receive.
+//! The law of messages as definitions: what stations send and receive where there is no coalition.
 #![tactic(auto)]
 
 mod laws;
