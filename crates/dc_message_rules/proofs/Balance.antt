@@ -142,7 +142,8 @@ same-state streams words after cycle is holds other begun =
 pub same-balance : (streams : List Stream) (words after : List (List ℕ)) → log_of after ≡ log_of words → ((s : Stream) → sent_of s after ≡ sent_of s words) → Balanced streams words → (x : Message)
     → count_in x (log_of after) ≡ sum_by (λ (s : Stream). count_in x (sent_of s after)) streams
 same-balance streams words after log sent held x =
-    ap (count_in x) log ∙ held.balance x ∙ sym (total-same (λ (s : Stream). count_in x (sent_of s after)) (λ (s : Stream). count_in x (sent_of s words)) streams (λ k d within. ap (count_in x) (sent (get_or streams k d))))
+    ap (count_in x) log ∙ held.balance x ∙ sym (total-same (λ (s : Stream). count_in x (sent_of s after)) (λ (s : Stream). count_in x (sent_of s words)) streams
+    (λ k d within. ap (count_in x) (sent (get_or streams k d))))
 
 -- where something is
 pub more-balance : (streams : List Stream) (words after : List (List ℕ)) (entries : List Entry) (more : Stream → List Entry) → log_of after ≡ log_of words ++ entries

@@ -95,7 +95,7 @@ leaves-more streams words word cycle fit begun left sent more x =
 epoch-state : (streams : List Stream) (words after : List (List ℕ)) (cycle : Cycle) (since : List (List ℕ)) → fields_left cycle ≡ []
     → history_of after ≡ with_epoch (history_of words).whole cycle since
     → CycleHolds (all_pending streams words) cycle → AreSent (firsts (all_pending streams words)) since → (other : Cycle) → (history_of after).begun ≡ Some other
-        → CycleHolds (all_pending streams after) other
+    → CycleHolds (all_pending streams after) other
 epoch-state streams words after cycle since left is holds sent = by_end (is_over (epoch_of since)) refl is
   where
     by_end : (b : Bool) → is_over (epoch_of since) ≡ b → history_of after

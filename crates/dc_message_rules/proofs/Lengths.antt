@@ -109,7 +109,8 @@ closed-length values (parts left right) a b holds closed =
     let two = closed-length values right (holds.0 + 1) b holds.4 both.1 in
     let size = length-append (come_out left) (come_out right) in
     let again = sum_by-append (λ (leaf : Leaf). if nat_lt 1 leaf.times then 1 else 0) (come_out left) (come_out right) in
-    subst (λ (c : Bool). length (if c then come_out left else come_out left ++ come_out right) + repeated (if c then come_out left else come_out left ++ come_out right) ≡ inner left + inner right + 1 + 1)
+    subst (λ (c : Bool). length (if c then come_out left else come_out left ++ come_out right) + repeated (if c then come_out left else come_out left ++ come_out right)
+    ≡ inner left + inner right + 1 + 1)
     (sym (ap is_some both.0)) (omega arith)
 
 some-words : (n k m : ℕ) → n ≡ k + 1 → m ≡ k + 1 → n ≡ max 1 m
@@ -122,7 +123,8 @@ nothing-out group none = ap (λ (n : ℕ). cond (n == 1) (leaf_of group 0 last_n
 by-epoch : (values : List (List ℕ)) (n : ℕ) (e : Epoch) → Sound values e → Counted n e → is_over e ≡ true → n ≡ epoch_length (leaves e)
 unfolding Counted inner
 by-epoch values n unbegun sound counted over = absurd (true≢false (sym over))
-by-epoch values n (resolving t) (inl holds) counted over = some-words n (inner t) (length (come_out t) + repeated (come_out t)) counted (closed-length values t 0 last_number holds (none-is (current t) over))
+by-epoch values n (resolving t) (inl holds) counted over =
+    some-words n (inner t) (length (come_out t) + repeated (come_out t)) counted (closed-length values t 0 last_number holds (none-is (current t) over))
 by-epoch values n (resolving t) (inr none) counted over =
     some-one n (counted ∙ ap (λ (u : Tree). inner u + 1) none.2) ∙ ap epoch_length (sym (ap come_out none.2 ∙ nothing-out none.1 none.3))
   where

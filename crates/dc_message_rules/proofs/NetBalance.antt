@@ -47,8 +47,10 @@ fit-net net is =
     let count = (all_agree net is.agrees).key_stations in
     let size = length-map-range_with_len (station_stream net) 0 net.stations in
     record {
-      values = All-map (λ (s : Stream). All IsValue s.shorts) (station_stream net) (range_with_len 0 net.stations) (λ k d within. (fit-station net is (get_or (range_with_len 0 net.stations) k d) (range-below net.stations k d within)).0);
-      messages = All-map (λ (s : Stream). All IsMessage s.longs) (station_stream net) (range_with_len 0 net.stations) (λ k d within. (fit-station net is (get_or (range_with_len 0 net.stations) k d) (range-below net.stations k d within)).1);
+      values = All-map (λ (s : Stream). All IsValue s.shorts) (station_stream net) (range_with_len 0 net.stations) (λ k d within. (fit-station net is
+          (get_or (range_with_len 0 net.stations) k d) (range-below net.stations k d within)).0);
+      messages = All-map (λ (s : Stream). All IsMessage s.longs) (station_stream net) (range_with_len 0 net.stations) (λ k d within. (fit-station net is
+          (get_or (range_with_len 0 net.stations) k d) (range-below net.stations k d within)).1);
       few = omega arith;
     }
 

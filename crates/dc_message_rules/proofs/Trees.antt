@@ -61,7 +61,8 @@ at_mean q values v = q v && nat_le (number_of v) (mean_of (values_group q values
 -- the mean of a group of values
 mean-is : (q : List ℕ → Bool) (values : List (List ℕ)) → All IsValue values → 1 ≤ tally q (λ v. 1) values
     → IsMean (tally q number_of values) (tally q (λ v. 1) values) (mean_of (values_group q values))
-mean-is q values are some = subst (λ (t : ℕ). IsMean (tally q number_of values) (tally q (λ v. 1) values) (t / tally q (λ v. 1) values)) (sym (group-total q values are)) (is-mean (tally q number_of values)
+mean-is q values are some = subst (λ (t : ℕ). IsMean (tally q number_of values) (tally q (λ v. 1) values) (t / tally q
+    (λ v. 1) values)) (sym (group-total q values are)) (is-mean (tally q number_of values)
     (tally q (λ v. 1) values) some)
 
 -- one is at most the mean

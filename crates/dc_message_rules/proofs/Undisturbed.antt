@@ -68,7 +68,8 @@ burst-clean streams words held clean cycle field fields begun left =
     let pending = all_pending streams words in
     let next : IsNext pending (field ∷ fields) cycle.since = subst (λ (fs : List ℕ). IsNext pending fs cycle.since) left (held.cycle_holds cycle begun).next in
     by_more next.0 next.1 next.2 next.3
-    (session-place streams words ∙ ap (λ (b : Option Cycle). place_sum pending (place_in b)) begun ∙ burst-place pending cycle field fields left ∙ burst-next pending field next.0 cycle.since next.1 next.2 next.3)
+    (session-place streams words ∙ ap (λ (b : Option Cycle). place_sum pending (place_in b)) begun ∙ burst-place pending cycle field fields left
+    ∙ burst-next pending field next.0 cycle.since next.1 next.2 next.3)
   where
     by_more : (m : HasMarker field (all_pending streams words)) (n : List ℕ) (more : List (List ℕ)) → cycle.since ++ n ∷ more ≡ fragments m.message → session_sum streams words ≡ n
         → Clean streams (words ++ session_sum streams words ∷ [])
