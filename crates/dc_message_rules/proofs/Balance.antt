@@ -40,17 +40,20 @@ fit-after : (s : Stream) (cycles : List Cycle) → All IsValue s.shorts × All I
 fit-after s [] is = is
 fit-after s (cycle ∷ cycles) is = fit-after (left_by s cycle) cycles (fit-left s cycle is)
 
-pub fit-pending : (streams : List Stream) (words : List (List ℕ)) → AreFit streams → AreFit (all_pending streams words)
-fit-pending streams words fit =
-    let size = length-map streams (λ (s : Stream). at_cycle s words) in
+pub fit-before : (streams : List Stream) (before : List Cycle) → AreFit streams → AreFit (map (λ (s : Stream). left_after s before) streams)
+fit-before streams before fit =
+    let size = length-map streams (λ (s : Stream). left_after s before) in
     let most = fit.few in
     record {
-      values = All-map (λ (s : Stream). All IsValue s.shorts) (λ (s : Stream). at_cycle s words) streams
-          (λ k d within. (fit-after (get_or streams k d) (history_of words).whole (fit.values k d within, fit.messages k d within)).0);
-      messages = All-map (λ (s : Stream). All IsMessage s.longs) (λ (s : Stream). at_cycle s words) streams
-          (λ k d within. (fit-after (get_or streams k d) (history_of words).whole (fit.values k d within, fit.messages k d within)).1);
+      values = All-map (λ (s : Stream). All IsValue s.shorts) (λ (s : Stream). left_after s before) streams
+          (λ k d within. (fit-after (get_or streams k d) before (fit.values k d within, fit.messages k d within)).0);
+      messages = All-map (λ (s : Stream). All IsMessage s.longs) (λ (s : Stream). left_after s before) streams
+          (λ k d within. (fit-after (get_or streams k d) before (fit.values k d within, fit.messages k d within)).1);
       few = omega arith;
     }
+
+pub fit-pending : (streams : List Stream) (words : List (List ℕ)) → AreFit streams → AreFit (all_pending streams words)
+fit-pending streams words fit = fit-before streams (history_of words).whole fit
 
 -- what comes next in a cycle: the rest of the burst of a field that one station marked, or an epoch in progress
 abbrev pub IsNext : List Stream → List ℕ → List (List ℕ) → Type 0
@@ -63,7 +66,7 @@ pub record CycleHolds (pending : List Stream) (cycle : Cycle) : Type 0 where
   pub next : IsNext pending (fields_left cycle) cycle.since
 
 -- no word sent yet
-nothing-front : (front : List (List ℕ)) (word : List ℕ) (rest : List (List ℕ)) → [] ≡ front ++ word ∷ rest → ⊥
+pub nothing-front : (front : List (List ℕ)) (word : List ℕ) (rest : List (List ℕ)) → [] ≡ front ++ word ∷ rest → ⊥
 nothing-front front word rest is = let size = ap (λ (ws : List (List ℕ)). length ws) is ∙ length-append front (word ∷ rest) in absurd (omega arith)
 
 none-over : is_over (epoch_of []) ≡ false
@@ -108,7 +111,8 @@ pub reserved-sum : (pending : List Stream) → place_sum pending (place_in None)
 unfolding word_for place_sum
 reserved-sum pending = refl
 
-pub burst-place : (pending : List Stream) (cycle : Cycle) (field : ℕ) (fields : List ℕ) → fields_left cycle ≡ field ∷ fields → place_sum pending (place_in (Some cycle)) ≡ burst_sum pending field (length cycle.since)
+pub burst-place : (pending : List Stream) (cycle : Cycle) (field : ℕ) (fields : List ℕ) → fields_left cycle ≡ field ∷ fields
+    → place_sum pending (place_in (Some cycle)) ≡ burst_sum pending field (length cycle.since)
 unfolding word_for place_sum
 burst-place pending cycle field fields left = ap (λ (fs : List ℕ). place_sum pending (place_among fs cycle.since)) left
 
@@ -126,7 +130,8 @@ pub no_stream : Stream
 no_stream = record { shorts = []; longs = []; coins = [] }
 
 -- the state of a history whose whole cycles stay
-pub same-state : (streams : List Stream) (words after : List (List ℕ)) (cycle : Cycle) → history_of after ≡ record { whole = (history_of words).whole; begun = Some cycle } → CycleHolds (all_pending streams words) cycle
+pub same-state : (streams : List Stream) (words after : List (List ℕ)) (cycle : Cycle) → history_of after ≡ record { whole = (history_of words).whole; begun = Some cycle }
+    → CycleHolds (all_pending streams words) cycle
     → (other : Cycle) → (history_of after).begun ≡ Some other → CycleHolds (all_pending streams after) other
 same-state streams words after cycle is holds other begun =
     let same : cycle ≡ other = some-inj (sym (ap (λ (h : History). h.begun) is) ∙ begun) in
@@ -137,7 +142,8 @@ same-state streams words after cycle is holds other begun =
 pub same-balance : (streams : List Stream) (words after : List (List ℕ)) → log_of after ≡ log_of words → ((s : Stream) → sent_of s after ≡ sent_of s words) → Balanced streams words → (x : Message)
     → count_in x (log_of after) ≡ sum_by (λ (s : Stream). count_in x (sent_of s after)) streams
 same-balance streams words after log sent held x =
-    ap (count_in x) log ∙ held.balance x ∙ sym (total-same (λ (s : Stream). count_in x (sent_of s after)) (λ (s : Stream). count_in x (sent_of s words)) streams (λ k d within. ap (count_in x) (sent (get_or streams k d))))
+    ap (count_in x) log ∙ held.balance x ∙ sym (total-same (λ (s : Stream). count_in x (sent_of s after)) (λ (s : Stream). count_in x (sent_of s words)) streams
+    (λ k d within. ap (count_in x) (sent (get_or streams k d))))
 
 -- where something is
 pub more-balance : (streams : List Stream) (words after : List (List ℕ)) (entries : List Entry) (more : Stream → List Entry) → log_of after ≡ log_of words ++ entries
@@ -150,7 +156,8 @@ more-balance streams words after entries more log sent held x same =
     ∙ total-plus (λ (s : Stream). count_in x (sent_of s words)) (λ (s : Stream). count_in x (more s)) streams)
 
 -- a reservation word
-pub reserve-step : (streams : List Stream) (words : List (List ℕ)) → AreFit streams → Balanced streams words → (history_of words).begun ≡ None → Balanced streams (words ++ session_sum streams words ∷ [])
+pub reserve-step : (streams : List Stream) (words : List (List ℕ)) → AreFit streams → Balanced streams words → (history_of words).begun ≡ None
+    → Balanced streams (words ++ session_sum streams words ∷ [])
 reserve-step streams words fit held none =
     let word = session_sum streams words in
     let after = words ++ word ∷ [] in

@@ -20,7 +20,8 @@ use Rattle.dc_message_rules.proofs.Balance.{AreFit, all_pending, IsNext, CycleHo
 abbrev pub given_count : Message → List ℕ → List ℕ → ℕ
 given_count x got message = count_in x (map long (if gave_message message (Some got) then message ∷ [] else []))
 
-sent-mark : (x : Message) (got : List ℕ) (field : ℕ) (longs : List (List ℕ)) (coins : List ℕ) → count_in x (map long (sent_by longs (next_mark longs coins) field (Some got))) ≡ by_mark field (given_count x got) longs coins
+sent-mark : (x : Message) (got : List ℕ) (field : ℕ) (longs : List (List ℕ)) (coins : List ℕ)
+    → count_in x (map long (sent_by longs (next_mark longs coins) field (Some got))) ≡ by_mark field (given_count x got) longs coins
 sent-mark x got field [] coins = refl
 sent-mark x got field (m ∷ longs) [] = refl
 sent-mark x got field (m ∷ longs) (c ∷ coins) = by_field (c == field)
@@ -46,7 +47,8 @@ burst-step streams words fit held cycle field fields begun left =
     let holds = held.cycle_holds cycle begun in
     let next : IsNext pending (field ∷ fields) cycle.since = subst (λ (fs : List ℕ). IsNext pending fs cycle.since) left holds.next in
     by_more holds next.0 next.1 next.2 next.3
-    (session-place streams words ∙ ap (λ (b : Option Cycle). place_sum pending (place_in b)) begun ∙ burst-place pending cycle field fields left ∙ burst-next pending field next.0 cycle.since next.1 next.2 next.3)
+    (session-place streams words ∙ ap (λ (b : Option Cycle). place_sum pending (place_in b)) begun ∙ burst-place pending cycle field fields left
+    ∙ burst-next pending field next.0 cycle.since next.1 next.2 next.3)
   where
     by_more : CycleHolds (all_pending streams words) cycle → (m : HasMarker field (all_pending streams words)) (n : List ℕ) (more : List (List ℕ)) → cycle.since ++ n ∷ more ≡ fragments m.message
         → session_sum streams words ≡ n → Balanced streams (words ++ session_sum streams words ∷ [])
@@ -61,13 +63,18 @@ burst-step streams words fit held cycle field fields begun left =
         let all = burst_ends no_stream words word cycle field fields begun left ended in
         let more : Stream → List Entry = λ s. map long (sent_by (at_cycle s words).longs (marked (at_cycle s words)) field (message_of (burst_of since))) in
         let same : (x : Message) → count_in x (map long (option_to_list (message_of (burst_of since)))) ≡ sum_by (λ (s : Stream). count_in x (more s)) streams = λ x.
-        subst (λ (o : Option (List ℕ)). count_in x (map long (option_to_list o)) ≡ sum_by (λ (s : Stream). count_in x (map long (sent_by (at_cycle s words).longs (marked (at_cycle s words)) field o))) streams) (sym got)
+        subst (λ (o : Option (List ℕ)). count_in x (map long (option_to_list o)) ≡ sum_by (λ (s : Stream). count_in x (map long (sent_by (at_cycle s words).longs (marked
+        (at_cycle s words)) field o))) streams) (sym got)
         (message-count pending field m x ∙ sum_by-map (λ (s : Stream). count_in x (map long (sent_by s.longs (marked s) field (Some m.message)))) (λ (s : Stream). at_cycle s words) streams) in
         record {
           balance = λ x. more-balance streams words after (map long (option_to_list (message_of (burst_of since)))) more all.log
               (λ s. (burst_ends s words word cycle field fields begun left ended).sent) held x (same x);
           cycle_holds = same-state streams words after (with_ended cycle field since) all.history
-              (record { markers = holds.markers; next = subst (λ (fs : List ℕ). IsNext pending fs []) (sym all.left) (next-starts pending fields (left-markers pending cycle field fields left holds)) });
+              (record {
+                markers = holds.markers;
+                next = subst
+                    (λ (fs : List ℕ). IsNext pending fs []) (sym all.left) (next-starts pending fields (left-markers pending cycle field fields left holds));
+              });
         }
     by_more holds m n (n' ∷ more) is word_is =
         let word = session_sum streams words in

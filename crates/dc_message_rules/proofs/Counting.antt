@@ -68,7 +68,8 @@ times_one : (c : Bool) (n : ℕ) → cond {A = ℕ} c 1 0 * n ≡ cond c n 0
 times_one true n = omega arith
 times_one false n = omega arith
 
-leaf-tally : (values : List (List ℕ)) (leaf : Leaf) (x : List ℕ) → IsLeaf values leaf → tally (λ v. bytes_eq x v && is_within leaf.low leaf.high v) (λ v. 1) values ≡ cond (bytes_eq x leaf.value) leaf.times 0
+leaf-tally : (values : List (List ℕ)) (leaf : Leaf) (x : List ℕ) → IsLeaf values leaf
+    → tally (λ v. bytes_eq x v && is_within leaf.low leaf.high v) (λ v. 1) values ≡ cond (bytes_eq x leaf.value) leaf.times 0
 leaf-tally values leaf x is =
     let c = bytes_eq x leaf.value in
     let w = is_within leaf.low leaf.high in
@@ -95,7 +96,8 @@ covers-count values x a (leaf ∷ out) e covers =
     let high = covers.1.high in
     let own = leaf-tally values leaf x covers.1 in
     let split = tally-splits (λ v. bytes_eq x v && reaches leaf.low e v) (λ v. bytes_eq x v && is_within leaf.low leaf.high v) (λ v. bytes_eq x v && reaches (leaf.high + 1) e v) (λ v. 1) values
-    (λ k d within. λ n. either (bytes_eq x _) (reaches leaf.low e _) (is_within leaf.low leaf.high _) (reaches (leaf.high + 1) e _) n (reaches-join leaf.low leaf.high e _ (omega arith) order) (reaches-apart leaf.low leaf.high e _)) in
+    (λ k d within. λ n. either (bytes_eq x _) (reaches leaf.low e _) (is_within leaf.low leaf.high _) (reaches (leaf.high + 1) e _) n
+    (reaches-join leaf.low leaf.high e _ (omega arith) order) (reaches-apart leaf.low leaf.high e _)) in
     let cons = sum_by-cons (λ (l : Leaf). if bytes_eq x l.value then l.times else 0) leaf out in
     subst (λ (n : ℕ). sum_by (λ (l : Leaf). if bytes_eq x l.value then l.times else 0) (leaf ∷ out) ≡ tally (λ v. bytes_eq x v && reaches n e v) (λ v. 1) values) covers.0
     (omega arith)

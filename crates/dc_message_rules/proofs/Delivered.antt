@@ -45,7 +45,8 @@ covers-deliver values out e covers all = record {
       (λ k d within. kept (bytes_eq x (get_or values k d)) (reaches 0 e (get_or values k d)) (reaches-is 0 e (get_or values k d) (omega arith) (all k d within)));
 }
 
-pub epochs-deliver : (values : List (List ℕ)) → All IsValue values → length values ≤ 256 → (words : List (List ℕ)) → AreSent values words → is_over (epoch_of words) ≡ true → Delivers values (leaves (epoch_of words))
+pub epochs-deliver : (values : List (List ℕ)) → All IsValue values → length values ≤ 256 → (words : List (List ℕ)) → AreSent values words → is_over (epoch_of words) ≡ true
+    → Delivers values (leaves (epoch_of words))
 epochs-deliver values are few words sent over =
     let reached = sound-reached values are (epoch_of words) (sent-sound values are few words sent) in
     covers-deliver values (leaves (epoch_of words)) reached.end reached.covers (reached.whole over)

@@ -19,31 +19,31 @@ use Rattle.dc_message_rules.proofs.SentEpochs.{sent-sound, Reached, sound-reache
 use Rattle.dc_message_rules.proofs.Firsts.{firsts, firsts-values, firsts-few, shorts_count, leaves-balance}
 use Rattle.dc_message_rules.proofs.Balance.{AreFit, fit-pending, all_pending, IsNext, CycleHolds, place_sum, session-place, epoch-place, Balanced, no_stream, same-state, more-balance}
 
--- where one more word is split, it is the last one or one before
-too-long : (x : List ℕ) (f : List ℕ) (front : List (List ℕ)) (word : List ℕ) (rest : List (List ℕ)) → x ∷ [] ≡ f ∷ front ++ word ∷ rest → ⊥
-too-long x f front word rest e = let size = ap (λ (ws : List (List ℕ)). length ws) e in let parts = length-append front (word ∷ rest) in absurd (omega arith)
+-- where one more item is split, it is the last one or one before
+too-long : {A : Type 0} (x f : A) (front : List A) (y : A) (rest : List A) → x ∷ [] ≡ f ∷ front ++ y ∷ rest → ⊥
+too-long {A} x f front y rest e = let size = ap (λ (ws : List A). length ws) e in let parts = length-append front (y ∷ rest) in absurd (omega arith)
 
-pub split-last : (xs : List (List ℕ)) (x : List ℕ) (front : List (List ℕ)) (word : List ℕ) (rest : List (List ℕ)) → xs ++ x ∷ [] ≡ front ++ word ∷ rest
-    → ((front ≡ xs) × (word ≡ x)) ⊎ ((more : List (List ℕ)) × (xs ≡ front ++ word ∷ more))
-split-last [] x [] word rest e = inl (refl, ap (λ (l : List (List ℕ)). slice_index_or l 0 x) (sym e))
-split-last [] x (f ∷ front) word rest e = absurd (too-long x f front word rest e)
-split-last (y ∷ xs) x [] word rest e = inr (xs, ap (λ (w : List ℕ). w ∷ xs) (ap (λ (l : List (List ℕ)). slice_index_or l 0 y) e))
-split-last (y ∷ xs) x (f ∷ front) word rest e =
-    let head : y ≡ f = ap (λ (l : List (List ℕ)). slice_index_or l 0 y) e in
-    elim (split-last xs x front word rest (ap (drop 1) e)) [
-      | inl last ↦ inl (ap₂ (λ (a : List ℕ) (b : List (List ℕ)). a ∷ b) (sym head) last.0, last.1)
-      | inr before ↦ inr (before.0, ap₂ (λ (a : List ℕ) (b : List (List ℕ)). a ∷ b) head before.1)
+pub split-last : {A : Type 0} (xs : List A) (x : A) (front : List A) (y : A) (rest : List A) → xs ++ x ∷ [] ≡ front ++ y ∷ rest
+    → ((front ≡ xs) × (y ≡ x)) ⊎ ((more : List A) × (xs ≡ front ++ y ∷ more))
+split-last {A} [] x [] y rest e = inl (refl, ap (λ (l : List A). slice_index_or l 0 x) (sym e))
+split-last [] x (f ∷ front) y rest e = absurd (too-long x f front y rest e)
+split-last {A} (z ∷ xs) x [] y rest e = inr (xs, ap (λ (w : A). w ∷ xs) (ap (λ (l : List A). slice_index_or l 0 z) e))
+split-last {A} (z ∷ xs) x (f ∷ front) y rest e =
+    let head : z ≡ f = ap (λ (l : List A). slice_index_or l 0 z) e in
+    elim (split-last xs x front y rest (ap (drop 1) e)) [
+      | inl last ↦ inl (ap₂ (λ (a : A) (b : List A). a ∷ b) (sym head) last.0, last.1)
+      | inr before ↦ inr (before.0, ap₂ (λ (a : A) (b : List A). a ∷ b) head before.1)
     ]
 
 -- one more word of an epoch that nobody disturbs
-sent-push : (values since : List (List ℕ)) (word : List ℕ) → AreSent values since → is_over (epoch_of since) ≡ false → word ≡ epoch_sum values since → AreSent values (since ++ word ∷ [])
+pub sent-push : (values since : List (List ℕ)) (word : List ℕ) → AreSent values since → is_over (epoch_of since) ≡ false → word ≡ epoch_sum values since → AreSent values (since ++ word ∷ [])
 sent-push values since word sent goes_on is front w rest e = elim (split-last since word front w rest e) [
   | inl last ↦ subst (λ (fs : List (List ℕ)). (is_over (epoch_of fs) ≡ false) × (w ≡ epoch_sum values fs)) (sym last.0) (goes_on, last.1 ∙ is)
   | inr before ↦ sent front w before.0 before.1
 ]
 
 -- the leaves after words that were sent
-reached-of : (pending : List Stream) → AreFit pending → (words : List (List ℕ)) → AreSent (firsts pending) words → Reached (firsts pending) (epoch_of words)
+pub reached-of : (pending : List Stream) → AreFit pending → (words : List (List ℕ)) → AreSent (firsts pending) words → Reached (firsts pending) (epoch_of words)
 reached-of pending fit words sent =
     let are = firsts-values pending fit.values in
     let most = fit.few in
@@ -92,8 +92,10 @@ leaves-more streams words word cycle fit begun left sent more x =
     cancel a b c d sum same = omega arith
 
 -- the state after the word
-epoch-state : (streams : List Stream) (words after : List (List ℕ)) (cycle : Cycle) (since : List (List ℕ)) → fields_left cycle ≡ [] → history_of after ≡ with_epoch (history_of words).whole cycle since
-    → CycleHolds (all_pending streams words) cycle → AreSent (firsts (all_pending streams words)) since → (other : Cycle) → (history_of after).begun ≡ Some other → CycleHolds (all_pending streams after) other
+epoch-state : (streams : List Stream) (words after : List (List ℕ)) (cycle : Cycle) (since : List (List ℕ)) → fields_left cycle ≡ []
+    → history_of after ≡ with_epoch (history_of words).whole cycle since
+    → CycleHolds (all_pending streams words) cycle → AreSent (firsts (all_pending streams words)) since → (other : Cycle) → (history_of after).begun ≡ Some other
+    → CycleHolds (all_pending streams after) other
 epoch-state streams words after cycle since left is holds sent = by_end (is_over (epoch_of since)) refl is
   where
     by_end : (b : Bool) → is_over (epoch_of since) ≡ b → history_of after

@@ -1,4 +1,5 @@
 -- The first pending values of stations: what they send in an epoch, and which of them count as sent.
+pub use Rattle.dc_message_rules.specs.Undisturbed.{first_values as firsts}
 use Rattle.std.proofs.Common.{◌≡◌, ℕ, ◌+◌, ◌%◌, ◌<◌, ◌≤◌, ◌&&◌, Bool, true, false, cond, List, [], ◌∷◌, length, map, take, get_or, slice_index, sum_by, All, if◌then◌else◌, refl, sym, ◌∙◌, ap, arith, length-append}
 use Rattle.std.specs.Str.{bytes_eq}
 use Rattle.std.specs.List.{list_any, flat_map}
@@ -16,10 +17,6 @@ use Rattle.dc_message_rules.specs.Shares.{Covers}
 use Rattle.dc_message_rules.specs.SentEpochs.{epoch_sum}
 use Rattle.dc_message_rules.proofs.Tallies.{total-same, total-zero}
 use Rattle.dc_message_rules.proofs.Counting.{reaches, covers-count, covers-any}
-
--- the first pending value of each station that has one
-abbrev pub firsts : List Stream → List (List ℕ)
-firsts streams = flat_map (λ (s : Stream). take 1 s.shorts) streams
 
 -- a sum over pieces
 pub total-flat : {A B : Type 0} (f : B → ℕ) (g : A → List B) (xs : List A) → sum_by f (flat_map g xs) ≡ sum_by (λ x. sum_by f (g x)) xs
@@ -48,7 +45,8 @@ firsts-few [] = omega arith
 firsts-few (s ∷ ss) = let one = one_first s.shorts in let rest = firsts-few ss in let size = length-append (take 1 s.shorts) (firsts ss) in omega arith
 
 -- the words of an epoch
-epoch-symbol : (shorts : List (List ℕ)) (e : Epoch) (l : ℕ) → l < 16 → slice_index (epoch_word shorts e) l ≡ sum_by (λ v. slice_index (if calls v e then contended_word v 1 else zero_word) l) (take 1 shorts)
+epoch-symbol : (shorts : List (List ℕ)) (e : Epoch) (l : ℕ) → l < 16
+    → slice_index (epoch_word shorts e) l ≡ sum_by (λ v. slice_index (if calls v e then contended_word v 1 else zero_word) l) (take 1 shorts)
 epoch-symbol [] e l few = symbol-word_of (λ _. 0) l few
 epoch-symbol (v ∷ vs) e l few = let one = sum_by-cons (λ u. slice_index (if calls u e then contended_word u 1 else zero_word) l) v [] in omega arith
 
@@ -87,7 +85,8 @@ first-count y out (v ∷ vs) = by_leaf (list_any (is_leaf_of v) out) (bytes_eq y
         neither false = refl
 
 -- the leaves of an epoch hold each message as often as the stations' values count as sent by them
-pub leaves-balance : (streams : List Stream) (out : List Leaf) (e : ℕ) → Covers (firsts streams) 0 out e → (x : Message) → count_in x (map leaf_entry out) ≡ sum_by (λ (s : Stream). shorts_count x out s.shorts) streams
+pub leaves-balance : (streams : List Stream) (out : List Leaf) (e : ℕ) → Covers (firsts streams) 0 out e → (x : Message)
+    → count_in x (map leaf_entry out) ≡ sum_by (λ (s : Stream). shorts_count x out s.shorts) streams
 leaves-balance streams out e covers (text b) =
     sum_by-map (times_in (text b)) leaf_entry out ∙ total-zero out
     ∙ sym (total-same (λ (s : Stream). shorts_count (text b) out s.shorts) (λ (s : Stream). 0) streams (λ k d within. none-count b out (get_or streams k d).shorts) ∙ total-zero streams)

@@ -52,7 +52,8 @@ put-holds values are (parts left right) a b holds place is word answer =
     by_left (λ at. put-holds values are left a holds.0 holds.3 place at word answer) (λ at. put-holds values are right (holds.0 + 1) b holds.4 place at word answer) (current left) refl is
   where
     by_left : (current left ≡ Some place → GrownTree values a holds.0 (put word left)) → (current right ≡ Some place → GrownTree values (holds.0 + 1) b (put word right))
-        → (o : Option Ranged) → current left ≡ o → option_or o (current right) ≡ Some place → GrownTree values a b (option_or (option_map (with_left right) (put word left)) (option_map (with_right left) (put word right)))
+        → (o : Option Ranged) → current left ≡ o → option_or o (current right) ≡ Some place
+        → GrownTree values a b (option_or (option_map (with_left right) (put word left)) (option_map (with_right left) (put word right)))
     by_left one other (Some pl) at e =
         let grown = one (at ∙ e) in
         record {
@@ -118,7 +119,8 @@ out-covers values are (parts left right) a b holds = by_left (current left) refl
   where
     by_left : (o : Option Ranged) → current left ≡ o → Covers values a (come_out left) (end_of holds.0 (current left)) → Covers values (holds.0 + 1) (come_out right) (end_of b (current right))
         → Covers values a (if is_some (current left) then come_out left else come_out left ++ come_out right) (end_of b (option_or (current left) (current right)))
-    by_left o at first second = subst (λ (c : Option Ranged). Covers values a (come_out left) (end_of holds.0 c) → Covers values a (if is_some c then come_out left else come_out left ++ come_out right)
+    by_left o at first second = subst (λ (c : Option Ranged). Covers values a (come_out left) (end_of holds.0 c)
+        → Covers values a (if is_some c then come_out left else come_out left ++ come_out right)
         (end_of b (option_or c (current right)))) (sym at) (by_option o) first
       where
         by_option : (c : Option Ranged) → Covers values a (come_out left) (end_of holds.0 c)

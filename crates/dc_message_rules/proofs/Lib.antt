@@ -16,3 +16,6 @@ pub mod BurstSteps
 pub mod EpochSteps
 pub mod SessionBalance
 pub mod NetBalance
+pub mod Undisturbed
+pub mod NetCycles
+pub mod Lengths

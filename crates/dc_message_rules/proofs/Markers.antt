@@ -37,7 +37,8 @@ choice : (b : Bool) (w : List ℕ) (l : ℕ) → l < 16 → slice_index (if b th
 choice true w l few = refl
 choice false w l few = zero-symbol l few
 
-pub burst-symbol : (longs : List (List ℕ)) (coins : List ℕ) (field i l : ℕ) → l < 16 → slice_index (burst_word (next_mark longs coins) field longs i) l ≡ by_mark field (fragment_symbol i l) longs coins
+pub burst-symbol : (longs : List (List ℕ)) (coins : List ℕ) (field i l : ℕ) → l < 16
+    → slice_index (burst_word (next_mark longs coins) field longs i) l ≡ by_mark field (fragment_symbol i l) longs coins
 burst-symbol [] coins field i l few = zero-symbol l few
 burst-symbol (m ∷ longs) [] field i l few = zero-symbol l few
 burst-symbol (m ∷ longs) (c ∷ coins) field i l few = choice (c == field) (long_word (m ∷ longs) i) l few
@@ -127,5 +128,6 @@ mark_sum-symbol streams few field low =
     let all = total-ones streams in
     symbol-word_of (λ l. sum_by (λ w. slice_index w l) (map (λ (s : Stream). mark_word (marked s)) streams) % 65537) field low
     ∙ ap (λ n. n % 65537) (sum_by-map (λ w. slice_index w field) (λ (s : Stream). mark_word (marked s)) streams
-    ∙ total-same (λ (s : Stream). slice_index (mark_word (marked s)) field) (at_mark field (λ m. 1)) streams (λ k d within. mark-symbol (get_or streams k d).longs (get_or streams k d).coins field low))
+    ∙ total-same (λ (s : Stream). slice_index (mark_word (marked s)) field) (at_mark field (λ m. 1)) streams (λ k d within. mark-symbol (get_or streams k d).longs
+    (get_or streams k d).coins field low))
     ∙ small (sum_by (at_mark field (λ m. 1)) streams) (omega arith)

@@ -30,7 +30,8 @@ abbrev pub net_streams : Net → List Stream
 net_streams net = map (station_stream net) (range_with_len 0 net.stations)
 
 -- they are streams of values and messages
-fit-place : (place : Option Stream) → ((s : Stream) → place ≡ Some s → IsStream s) → let stream = unwrap_or place (record { shorts = []; longs = []; coins = [] }) in All IsValue stream.shorts × All IsMessage stream.longs
+fit-place : (place : Option Stream) → ((s : Stream) → place ≡ Some s → IsStream s)
+    → let stream = unwrap_or place (record { shorts = []; longs = []; coins = [] }) in All IsValue stream.shorts × All IsMessage stream.longs
 fit-place None are = (All-nil IsValue, All-nil IsMessage)
 fit-place (Some s) are = let is = are s refl in (is.are_values, is.are_messages)
 
@@ -46,8 +47,10 @@ fit-net net is =
     let count = (all_agree net is.agrees).key_stations in
     let size = length-map-range_with_len (station_stream net) 0 net.stations in
     record {
-      values = All-map (λ (s : Stream). All IsValue s.shorts) (station_stream net) (range_with_len 0 net.stations) (λ k d within. (fit-station net is (get_or (range_with_len 0 net.stations) k d) (range-below net.stations k d within)).0);
-      messages = All-map (λ (s : Stream). All IsMessage s.longs) (station_stream net) (range_with_len 0 net.stations) (λ k d within. (fit-station net is (get_or (range_with_len 0 net.stations) k d) (range-below net.stations k d within)).1);
+      values = All-map (λ (s : Stream). All IsValue s.shorts) (station_stream net) (range_with_len 0 net.stations) (λ k d within. (fit-station net is
+          (get_or (range_with_len 0 net.stations) k d) (range-below net.stations k d within)).0);
+      messages = All-map (λ (s : Stream). All IsMessage s.longs) (station_stream net) (range_with_len 0 net.stations) (λ k d within. (fit-station net is
+          (get_or (range_with_len 0 net.stations) k d) (range-below net.stations k d within)).1);
       few = omega arith;
     }
 
@@ -56,11 +59,13 @@ plain-session : (net : Net) (received : List (List ℕ)) → plain_sum net recei
 plain-session net received = ap word_sum (sym (map-twice (λ (s : Stream). plain_word s received) (station_stream net) (range_with_len 0 net.stations)))
 
 -- a front of the first words
-front-take : (h front : List (List ℕ)) (word : List ℕ) (rest : List (List ℕ)) → h ≡ front ++ word ∷ rest → (take (length front) h ≡ front) × (get_or h (length front) [] ≡ word) × (length front < length h)
+front-take : (h front : List (List ℕ)) (word : List ℕ) (rest : List (List ℕ)) → h ≡ front ++ word ∷ rest
+    → (take (length front) h ≡ front) × (get_or h (length front) [] ≡ word) × (length front < length h)
 front-take h front word rest e =
     let size = ap (λ (ws : List (List ℕ)). length ws) e ∙ length-append front (word ∷ rest) in (
       ap (take (length front)) e ∙ take-append-le (length front) front (word ∷ rest) (omega arith) ∙ take_all (length front) front (omega arith),
-      ap (λ (ws : List (List ℕ)). get_or ws (length front) []) e ∙ ap (λ (k : ℕ). get_or (front ++ word ∷ rest) k []) (let e : length front ≡ length front + 0 = omega arith in e) ∙ get_or-append-add front (word ∷ rest) 0 [],
+      ap (λ (ws : List (List ℕ)). get_or ws (length front) []) e ∙ ap (λ (k : ℕ). get_or (front ++ word ∷ rest) k []) (let e : length front ≡ length front + 0 = omega arith in e)
+          ∙ get_or-append-add front (word ∷ rest) 0 [],
       omega arith,
     )
 

@@ -88,7 +88,8 @@ round_plain net is none played received same = word_of-same _ _ (λ l few.
         (fits.ends, let low = fits.within in omega arith)) net.keys.pairs is.keys.are_pairs
 
     below_u : (net : Net) → IsNet net → All (λ (pair : Pair). pair.u < net.stations) net.keys.pairs
-    below_u net is = All-weaker (λ (pair : Pair). (pair.u < pair.v) × (pair.v < net.stations)) (λ (pair : Pair). pair.u < net.stations) (λ pair e. let up = e.0 in let low = e.1 in omega arith) net.keys.pairs (ends net is)
+    below_u net is = All-weaker (λ (pair : Pair). (pair.u < pair.v) × (pair.v < net.stations)) (λ (pair : Pair). pair.u < net.stations)
+        (λ pair e. let up = e.0 in let low = e.1 in omega arith) net.keys.pairs (ends net is)
 
     below_v : (net : Net) → IsNet net → All (λ (pair : Pair). pair.v < net.stations) net.keys.pairs
     below_v net is = All-weaker (λ (pair : Pair). (pair.u < pair.v) × (pair.v < net.stations)) (λ (pair : Pair). pair.v < net.stations) (λ pair e. e.1) net.keys.pairs (ends net is)

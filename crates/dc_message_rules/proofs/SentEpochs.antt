@@ -29,7 +29,8 @@ same-group : (p q : List ℕ → Bool) (values : List (List ℕ)) → All (λ v.
 same-group p q values same =
     let of : ℕ → List ℕ → Group = λ c ls. record { count = c; limbs = ls } in
     ap₂ of (total-same (λ v. cond {A = ℕ} (p v) 1 0) (λ v. cond {A = ℕ} (q v) 1 0) values (λ k d within. ap (λ (b : Bool). cond {A = ℕ} b 1 0) (same k d within)))
-    (fifteen-same _ _ (λ i few. total-same (λ v. cond (p v) (get_or v i 0) 0) (λ v. cond (q v) (get_or v i 0) 0) values (λ k d within. ap (λ (b : Bool). cond b (get_or (get_or values k d) i 0) 0) (same k d within))))
+    (fifteen-same _ _ (λ i few. total-same (λ v. cond (p v) (get_or v i 0) 0) (λ v. cond (q v) (get_or v i 0) 0) values (λ k d within. ap (λ (b : Bool). cond b (get_or
+    (get_or values k d) i 0) 0) (same k d within))))
 
 -- what an epoch that nobody disturbs has come to
 abbrev pub Sound : List (List ℕ) → Epoch → Type 0
@@ -39,7 +40,8 @@ Sound values (void_epoch out fault) = ⊥
 
 -- its root
 count-all : (values : List (List ℕ)) → All IsValue values → tally (is_within 0 last_number) (λ v. 1) values ≡ length values
-count-all values are = total-same (λ v. cond {A = ℕ} (is_within 0 last_number v) 1 0) (λ v. 1) values (λ k d within. ap (λ (b : Bool). cond {A = ℕ} b 1 0) (all-within (get_or values k d) (are k d within))) ∙ total-ones values
+count-all values are = total-same (λ v. cond {A = ℕ} (is_within 0 last_number v) 1 0) (λ v. 1) values (λ k d within. ap (λ (b : Bool). cond {A = ℕ} b 1 0) (all-within
+    (get_or values k d) (are k d within))) ∙ total-ones values
 
 root-sound : (values : List (List ℕ)) → All IsValue values → length values ≤ 256 → Sound values (with_word unbegun (sent_sum (λ v. true) values))
 root-sound values are few = subst (λ (r : Result Group GroupFault). Sound values (root_or_fault r)) (sym (sent-group (λ v. true) values are few)) (by_size (length values) refl)
@@ -68,7 +70,8 @@ open-is (Some place) goes_on = (place, refl)
 -- a root of count 0 is closed
 closed : (t : Tree) (group : Group) → t ≡ unsplit group 0 last_number → group.count ≡ 0 → is_none (current t) ≡ true
 unfolding current
-closed t group is zero_is = ap (λ (u : Tree). is_none (current u)) is ∙ ap (λ (c : Bool). is_none {T = Ranged} (cond c None (Some (record { group = group; low = 0; high = last_number })))) (lt-ltb group.count 2 (omega arith))
+closed t group is zero_is = ap (λ (u : Tree). is_none (current u)) is
+    ∙ ap (λ (c : Bool). is_none {T = Ranged} (cond c None (Some (record { group = group; low = 0; high = last_number })))) (lt-ltb group.count 2 (omega arith))
 
 tree-sound : (values : List (List ℕ)) → All IsValue values → length values ≤ 256 → (t : Tree) → Sound values (resolving t) → is_none (current t) ≡ false
     → Sound values (grown_tree t (put (sent_sum (λ v. calls v (resolving t)) values) t))

@@ -13,7 +13,7 @@ use Rattle.dc_message_rules.proofs.BurstSteps.{burst-step}
 use Rattle.dc_message_rules.proofs.EpochSteps.{epoch-step}
 
 -- before the first round
-none-begun : (history_of []).begun ≡ None
+pub none-begun : (history_of []).begun ≡ None
 unfolding history_of
 none-begun = refl
 
@@ -21,11 +21,11 @@ none-counted : (streams : List Stream) (x : Message) → count_in x (log_of []) 
 unfolding log_of sent_of history_of
 none-counted streams x = sym (total-zero streams)
 
-start : (streams : List Stream) → Balanced streams []
+pub start : (streams : List Stream) → Balanced streams []
 start streams = record { balance = none-counted streams; cycle_holds = λ cycle begun. absurd (none-some cycle (sym none-begun ∙ begun)) }
 
 -- each round
-step : (streams : List Stream) (words : List (List ℕ)) → AreFit streams → Balanced streams words → Balanced streams (words ++ session_sum streams words ∷ [])
+pub step : (streams : List Stream) (words : List (List ℕ)) → AreFit streams → Balanced streams words → Balanced streams (words ++ session_sum streams words ∷ [])
 step streams words fit held = by_begun (history_of words).begun refl
   where
     by_begun : (o : Option Cycle) → (history_of words).begun ≡ o → Balanced streams (words ++ session_sum streams words ∷ [])

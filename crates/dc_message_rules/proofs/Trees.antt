@@ -59,8 +59,10 @@ abbrev pub at_mean : (List ℕ → Bool) → List (List ℕ) → List ℕ → Bo
 at_mean q values v = q v && nat_le (number_of v) (mean_of (values_group q values))
 
 -- the mean of a group of values
-mean-is : (q : List ℕ → Bool) (values : List (List ℕ)) → All IsValue values → 1 ≤ tally q (λ v. 1) values → IsMean (tally q number_of values) (tally q (λ v. 1) values) (mean_of (values_group q values))
-mean-is q values are some = subst (λ (t : ℕ). IsMean (tally q number_of values) (tally q (λ v. 1) values) (t / tally q (λ v. 1) values)) (sym (group-total q values are)) (is-mean (tally q number_of values)
+mean-is : (q : List ℕ → Bool) (values : List (List ℕ)) → All IsValue values → 1 ≤ tally q (λ v. 1) values
+    → IsMean (tally q number_of values) (tally q (λ v. 1) values) (mean_of (values_group q values))
+mean-is q values are some = subst (λ (t : ℕ). IsMean (tally q number_of values) (tally q (λ v. 1) values) (t / tally q
+    (λ v. 1) values)) (sym (group-total q values are)) (is-mean (tally q number_of values)
     (tally q (λ v. 1) values) some)
 
 -- one is at most the mean
@@ -75,7 +77,8 @@ pub record OneValue (q : List ℕ → Bool) (values : List (List ℕ)) : Type 0 
   pub all : All (λ v. q v ≡ true → v ≡ value) values
 
 -- where all are at most the mean, they are one value
-pub all-at_mean : (q : List ℕ → Bool) (values : List (List ℕ)) → All IsValue values → 1 ≤ tally q (λ v. 1) values → tally (at_mean q values) (λ v. 1) values ≡ tally q (λ v. 1) values → OneValue q values
+pub all-at_mean : (q : List ℕ → Bool) (values : List (List ℕ)) → All IsValue values → 1 ≤ tally q (λ v. 1) values → tally (at_mean q values) (λ v. 1) values ≡ tally q (λ v. 1) values
+    → OneValue q values
 all-at_mean q values are some same =
     let m = mean_of (values_group q values) in
     let low = all-low q number_of m values same in

@@ -1,15 +1,18 @@
 -- Laws of messages: what holds of a net without a coalition.
-use Rattle.std.specs.Prelude.{ℕ, ◌<◌, ◌≤◌, ◌≡◌, true, List, [], length, take, slice_index_or, sum_by, All}
-use Rattle.std.specs.List.{range_with_len}
+use Rattle.std.specs.Prelude.{ℕ, ◌<◌, ◌≤◌, ◌≡◌, true, List, [], ◌∷◌, ◌++◌, length, map, take, slice_index_or, sum_by, All}
+use Rattle.std.specs.List.{range_with_len, AllByRecursion}
 use Rattle.dc_spec.specs.Values.{IsValue}
 use Rattle.dc_spec.specs.Net.{Net}
 use Rattle.dc_station_rules.specs.Epochs.{Leaf, EpochFault, void_epoch, epoch_of, leaves, is_over}
-use Rattle.dc_station_rules.specs.Stations.{log_of, sent_of}
+use Rattle.dc_station_rules.specs.Stations.{left_after, log_of, sent_of}
 use Rattle.dc_net_rules.specs.Bags.{Message, count_in}
 use Rattle.dc_net_rules.specs.Nets.{IsNet}
 use Rattle.dc_net_rules.specs.Runs.{history, rounds_of, run_of, station_stream}
 use Rattle.dc_message_rules.specs.PlainSums.{plain_sum}
-use Rattle.dc_message_rules.specs.SentEpochs.{AreSent, Delivers}
+use Rattle.dc_message_rules.specs.SentEpochs.{AreSent, Delivers, epoch_length}
+use Rattle.dc_message_rules.specs.Undisturbed.{first_values}
+use Rattle.dc_station_rules.specs.Bursts.{IsMessageBurst}
+use Rattle.dc_station_rules.specs.Cycles.{Cycle, cycles, epoch_words, history_of}
 
 -- what a station received in the first rounds is the sums of these rounds
 abbrev pub HistoriesAreSums : Type 0
@@ -53,3 +56,35 @@ MessagesBalance =
     → count_in message (log_of (history (rounds_of net t) i))
     ≡ sum_by (λ j. count_in message (sent_of (station_stream net j) (history (rounds_of net t) j)))
     (range_with_len 0 net.stations)
+
+-- no burst that has ended is void, and no epoch is, in any cycle of what a station received
+abbrev pub NothingIsVoid : Type 0
+NothingIsVoid =
+    (net : Net) → IsNet net → net.coalition ≡ [] → (t : ℕ) → t ≤ net.words
+    → (i : ℕ) → i < net.stations → (before : List Cycle) (cycle : Cycle) (after : List Cycle)
+    → cycles (history_of (history (rounds_of net t) i)) ≡ before ++ cycle ∷ after
+    → AllByRecursion (λ (b : ℕ × List (List ℕ)). (message : List ℕ) × IsMessageBurst b.1 message)
+    cycle.bursts
+    × ((out : List Leaf) (fault : EpochFault)
+    → epoch_of (epoch_words cycle) ≡ void_epoch out fault → ⊥)
+
+-- each whole epoch delivers the values sent in its root, the first pending ones of all stations: in
+-- rising order, each as often as it was sent there
+abbrev pub EpochsRise : Type 0
+EpochsRise =
+    (net : Net) → IsNet net → net.coalition ≡ [] → (t : ℕ) → t ≤ net.words
+    → (i : ℕ) → i < net.stations → (before : List Cycle) (cycle : Cycle) (after : List Cycle)
+    → cycles (history_of (history (rounds_of net t) i)) ≡ before ++ cycle ∷ after
+    → is_over (epoch_of (epoch_words cycle)) ≡ true
+    → Delivers (first_values (map (λ j. left_after (station_stream net j) before)
+    (range_with_len 0 net.stations))) (leaves (epoch_of (epoch_words cycle)))
+
+-- and it takes one word for each leaf, and one more for each that two stations or more sent; or one
+-- word where nobody sends
+abbrev pub EpochLengths : Type 0
+EpochLengths =
+    (net : Net) → IsNet net → net.coalition ≡ [] → (t : ℕ) → t ≤ net.words
+    → (i : ℕ) → i < net.stations → (before : List Cycle) (cycle : Cycle) (after : List Cycle)
+    → cycles (history_of (history (rounds_of net t) i)) ≡ before ++ cycle ∷ after
+    → is_over (epoch_of (epoch_words cycle)) ≡ true
+    → length (epoch_words cycle) ≡ epoch_length (leaves (epoch_of (epoch_words cycle)))

@@ -1,5 +1,5 @@
 -- An epoch in which stations send their values where it calls for them, and nobody disturbs it.
-use Rattle.std.specs.Prelude.{ℕ, ◌≡◌, ◌<◌, ◌≤◌, false, List, ◌∷◌, ◌++◌, map, sum_by, All, AllPairs, if◌then◌else◌}
+use Rattle.std.specs.Prelude.{ℕ, ◌≡◌, ◌<◌, ◌≤◌, false, List, ◌∷◌, ◌++◌, map, sum_by, max, nat_lt, length, ◌+◌, All, AllPairs, if◌then◌else◌}
 use Rattle.std.specs.Str.{bytes_eq}
 use Rattle.dc_spec.specs.Words.{zero_word, word_sum}
 use Rattle.dc_spec.specs.Values.{number_of, contended_word}
@@ -32,3 +32,12 @@ pub record Delivers (values : List (List ℕ)) (out : List Leaf) : Type 0 where
   pub some : All (λ (leaf : Leaf). 1 ≤ leaf.times) out
   pub times : (value : List ℕ) → times_of_value value out
       ≡ tally (bytes_eq value) (λ sent. 1) values
+
+-- how many leaves are of two stations or more
+abbrev pub repeated : List Leaf → ℕ
+repeated out = sum_by (λ (leaf : Leaf). if nat_lt 1 leaf.times then 1 else 0) out
+
+-- how many words an epoch with these leaves takes: one for each leaf, and one more for each that is
+-- repeated; one where there is no leaf
+abbrev pub epoch_length : List Leaf → ℕ
+epoch_length out = max 1 (length out + repeated out)

@@ -1,8 +1,9 @@
-//! The law of messages as definitions: what all stations of a net without a coalition send and receive.
+//! The law of messages as definitions: what stations send and receive where there is no coalition.
 #![tactic(auto)]
 
 mod laws;
 
 pub use laws::{
-    epochs_deliver, epochs_stand, histories_are_sums, logs_agree, messages_balance, sums_are_plain,
+    epoch_lengths, epochs_deliver, epochs_rise, epochs_stand, histories_are_sums, logs_agree,
+    messages_balance, nothing_is_void, sums_are_plain,
 };
