@@ -8,7 +8,7 @@ use Rattle.std.proofs.lemmas.Slice.Eq.{bytes_eq-Decides}
 use Rattle.dc_cli.specs.Forms.{Slot, name, number, is_name, texts, begun, is_form, longest_begun}
 use Rattle.dc_cli.specs.Commands.{workers_slots, said, ReadsAs, ReadsAsReplay, ReadsAsWorkers, ReadsAsCount}
 use Rattle.dc_cli.specs.declared.command.Command.{Command}
-use Rattle.dc_cli.specs.declared.command.Command.TheVariants.{Sum, Keygen, KeygenSeeds, Migrate, Replay}
+use Rattle.dc_cli.specs.declared.command.Command.TheVariants.{Sum, Keygen, KeygenSeeds, Migrate, Replay, Logs}
 
 -- the first word and the others
 pub texts-front : {A : Type 0} (xs : List (String A)) (d : String A) → 1 ≤ length xs → texts xs ≡ string_bytes (get_or xs 0 d) ∷ texts (take (length xs - 1) (drop 1 xs))
@@ -26,14 +26,15 @@ texts_differ : (word due : List ℕ) → word ≢ due → bytes_eq word due ≡ 
 texts_differ word due other = not_true (bytes_eq word due) (λ same. other ((bytes_eq-Decides word due).0 same))
 
 -- words that begin with another word are not a form
-pub other_word : (verb : List ℕ) (rest : List (List ℕ)) → verb ≢ codes "sum" → verb ≢ codes "keygen" → verb ≢ codes "migrate" → verb ≢ codes "replay"
+pub other_word : (verb : List ℕ) (rest : List (List ℕ)) → verb ≢ codes "sum" → verb ≢ codes "keygen" → verb ≢ codes "migrate" → verb ≢ codes "replay" → verb ≢ codes "logs"
     → (is_form (verb ∷ rest) ≡ false) × (0 ≡ longest_begun (verb ∷ rest))
-other_word verb rest not_sum not_keygen not_migrate not_replay =
+other_word verb rest not_sum not_keygen not_migrate not_replay not_logs =
     let sum = texts_differ verb (codes "sum") not_sum in
     let keygen = texts_differ verb (codes "keygen") not_keygen in
     let migrate = texts_differ verb (codes "migrate") not_migrate in
     let replay = texts_differ verb (codes "replay") not_replay in
-    (rw (sum, keygen, migrate, replay) refl, rw (sum, keygen, migrate, replay) refl)
+    let logs = texts_differ verb (codes "logs") not_logs in
+    (rw (sum, keygen, migrate, replay, logs) refl, rw (sum, keygen, migrate, replay, logs) refl)
 
 -- an empty command line is not a form
 pub no_words : {A : Type 0} (xs : List (String A)) → length xs < 1 → (is_form (texts xs) ≡ false) × (0 ≡ longest_begun (texts xs))
@@ -51,11 +52,11 @@ pub same_text : (word due : List ℕ) → bytes_eq word due ≡ true → word �
 same_text word due test = (bytes_eq-Decides word due).0 test
 
 -- a form that begins with another one is begun as far
-begun_further : (words : List (List ℕ)) (slots : List Slot) → max (max 0 (suc (begun (name ∷ []) words))) (suc (begun (name ∷ slots) words)) ≡ 1 + begun (name ∷ slots) words
+begun_further : (words : List (List ℕ)) (slots : List Slot) → max (max (max 0 (suc (begun (name ∷ []) words))) (suc (begun (name ∷ slots) words))) 0 ≡ 1 + begun (name ∷ slots) words
 begun_further [] slots = refl
 begun_further (word ∷ words) slots = further (is_name word) (begun slots words)
   where
-    further : (b : Bool) (n : ℕ) → max (max 0 (suc (cond b 1 0))) (suc (cond b (suc n) 0)) ≡ 1 + cond b (suc n) 0
+    further : (b : Bool) (n : ℕ) → max (max (max 0 (suc (cond b 1 0))) (suc (cond b (suc n) 0))) 0 ≡ 1 + cond b (suc n) 0
     further true n = omega arith
     further false n = refl
 
@@ -66,6 +67,7 @@ ReadsAs-replay words (Ok (Sum file)) p = absurd p
 ReadsAs-replay words (Ok (Keygen seed net target)) p = absurd p
 ReadsAs-replay words (Ok (KeygenSeeds seed net target)) p = absurd p
 ReadsAs-replay words (Ok (Migrate keys target)) p = absurd p
+ReadsAs-replay words (Ok (Logs net)) p = absurd p
 ReadsAs-replay words (Err place) p = (rw (p.0, p.1) refl, p.2 ∙ sym (begun_further words workers_slots))
 
 -- the words after `--workers`, read as a number, are a number of workers

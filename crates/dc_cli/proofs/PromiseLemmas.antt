@@ -18,23 +18,25 @@ use Rattle.dc_keyfile.specs.declared.fault.KeyFault.{KeyFault}
 use Rattle.dc_manifest.specs.Content.{Content}
 use Rattle.dc_manifest.specs.Reading.{manifest_of}
 use Rattle.dc_manifest.specs.declared.fault.ManifestFault.{ManifestFault}
+use Rattle.dc_run_texts.specs.View.{view_text}
+use Rattle.dc_run_texts.specs.Logs.{logs_text}
 use Rattle.dc_superpose.specs.Reading.{transcript_of}
 use Rattle.dc_superpose.specs.declared.fault.TranscriptFault.{TranscriptFault}
 use Rattle.dc_cli.specs.Forms.{is_name, is_form, longest_begun}
-use Rattle.dc_cli.specs.Commands.{Task, sum, keygen, keygen_seeds, migrate, replay, SpellsKeygen, SpellsWorkers, unsaid, said, Spells}
+use Rattle.dc_cli.specs.Commands.{Task, sum, keygen, keygen_seeds, migrate, replay, logs, SpellsKeygen, SpellsWorkers, unsaid, said, Spells}
 use Rattle.dc_cli.specs.Summing.{SummedFile, SumRan, Refused}
 use Rattle.dc_cli.specs.Making.{Making, MakesOf}
 use Rattle.dc_cli.specs.Keygen.{keys_for, keygen_making}
 use Rattle.dc_cli.specs.KeygenSeeds.{seeds_for, seeds_making}
 use Rattle.dc_cli.specs.Migrating.{pads_for, migrate_making}
 use Rattle.dc_cli.specs.Ran.{Ran, CommandRan}
-use Rattle.dc_cli.specs.Promises.{Call, AsksFor, RefusesOtherWords, Leaves, KeepsFiles, AsksInOrder, PrintsOnlyWhenDone, PrintsSums, HasLimit, TellsName, TellsTheLast, MissesTheAbsent, RefusesTheLong, TellsTheFault, RefusesTheMalformed, HasCauses, Completes, MakesFile, making_of, MakesFiles, WritesKeys, WritesSeeds, WritesPads, PrintsView, RunsNets}
+use Rattle.dc_cli.specs.Promises.{Call, AsksFor, RefusesOtherWords, Leaves, KeepsFiles, AsksInOrder, PrintsOnlyWhenDone, PrintsSums, HasLimit, TellsName, TellsTheLast, MissesTheAbsent, RefusesTheLong, TellsTheFault, RefusesTheMalformed, HasCauses, Completes, MakesFile, making_of, MakesFiles, WritesKeys, WritesSeeds, WritesPads, PrintsView, PrintsLogs, RunsNets, RunsLogs}
 use Rattle.dc_cli.specs.declared.outcome.FileFault.{FileFault}
 use Rattle.dc_cli.specs.declared.outcome.FileFault.TheVariants.{Transcript, Keys, Manifest, Stream, Script}
 use Rattle.dc_cli.specs.declared.outcome.Outcome.{Outcome}
 use Rattle.dc_cli.specs.declared.outcome.Outcome.TheVariants.{Done, Usage, Missing, TooLong, Malformed, Disagree, ShelfFault, SinkFault, NoMemory}
 use Rattle.dc_cli.proofs.ShelfLemmas.{told_bytes, held_is_there, held_within, AskedUpTo, asked_none, asked_first, LastAsked, last_is}
-use Rattle.dc_cli.proofs.ReplayLemmas.{ReplayRan-kept, ReplayRan-asked, ReplayRan-asked_all, ReplayRan-silent, ReplayRan-missing, ReplayRan-long, ReplayRan-transcript, ReplayRan-last, ReplayRan-shelf_rose, ReplayRan-sink_rose, ReplayRan-prints, ReplayRan-completes}
+use Rattle.dc_cli.proofs.ReplayLemmas.{NetRan-kept, NetRan-asked, NetRan-asked_all, NetRan-silent, NetRan-missing, NetRan-long, NetRan-transcript, NetRan-last, NetRan-shelf_rose, NetRan-sink_rose, NetRan-prints, NetRan-completes}
 use Rattle.dc_cli.proofs.MakingLemmas.{MakesOf-leaves, MakesOf-asked, MakesOf-asked_all, MakesOf-last, MakesOf-rose, MakesOf-missing, MakesOf-long, MakesOf-written, MakesOf-fault, MakesOf-completes, MakesOf-refuses}
 
 -- a name as a test of its truth
@@ -65,6 +67,7 @@ Spells-form words (migrate keys target) p =
 Spells-form words (replay net workers) p =
     let q = p.2 in
     replay_form words net workers q.rest p.1 q.words_are (name_is (is_name net) q.net_is) q.workers_are
+Spells-form words (logs net) p = let named : is_name net ≡ true = name_is (is_name net) p.1 in rw (p.0, named) refl
 
 not_both : (words : List (List ℕ)) (command : Task) → Spells words command → is_form words ≡ false → ⊥
 not_both words command p refused = let is = Spells-form words command p in absurd cc
@@ -151,6 +154,17 @@ same_command words (keygen_seeds seed net target) (replay net' workers) p q = ab
 same_command words (replay net workers) (keygen_seeds seed net' target) p q = absurd (verbs_differ words _ _ (codes "replay") (codes "keygen") p.1 q.1 refl)
 same_command words (migrate keys target) (replay net' workers) p q = absurd (verbs_differ words _ _ (codes "migrate") (codes "replay") p.0 q.1 refl)
 same_command words (replay net workers) (migrate keys target) p q = absurd (verbs_differ words _ _ (codes "replay") (codes "migrate") p.1 q.0 refl)
+same_command words (sum file) (logs net') p q = absurd (verbs_differ words _ _ (codes "sum") (codes "logs") p.0 q.0 refl)
+same_command words (logs net) (sum file) p q = absurd (verbs_differ words _ _ (codes "logs") (codes "sum") p.0 q.0 refl)
+same_command words (keygen seed net target) (logs net') p q = absurd (verbs_differ words _ _ (codes "keygen") (codes "logs") p.1 q.0 refl)
+same_command words (logs net) (keygen seed net' target) p q = absurd (verbs_differ words _ _ (codes "logs") (codes "keygen") p.0 q.1 refl)
+same_command words (keygen_seeds seed net target) (logs net') p q = absurd (verbs_differ words _ _ (codes "keygen") (codes "logs") p.1 q.0 refl)
+same_command words (logs net) (keygen_seeds seed net' target) p q = absurd (verbs_differ words _ _ (codes "logs") (codes "keygen") p.0 q.1 refl)
+same_command words (migrate keys target) (logs net') p q = absurd (verbs_differ words _ _ (codes "migrate") (codes "logs") p.0 q.0 refl)
+same_command words (logs net) (migrate keys target) p q = absurd (verbs_differ words _ _ (codes "logs") (codes "migrate") p.0 q.0 refl)
+same_command words (replay net workers) (logs net') p q = absurd (verbs_differ words _ _ (codes "replay") (codes "logs") p.1 q.0 refl)
+same_command words (logs net) (replay net' workers) p q = absurd (verbs_differ words _ _ (codes "logs") (codes "replay") p.0 q.1 refl)
+same_command words (logs net) (logs net') p q = let a = p.0 in let b = q.0 in let same : net ≡ net' = cc in ap logs same
 
 refused_words : (words : List (List ℕ)) (s s' : ShelfState) (o o' : SinkState) (outcome : Outcome) → Ran words s s' o o' outcome → is_form words ≡ false → outcome ≡ Usage (longest_begun words)
 refused_words words s s' o o' (Usage place) ran refused = ap Usage ran.place_is
@@ -215,7 +229,8 @@ CommandRan-leaves (sum file) s s' o o' outcome ran = SumRan-kept file s s' o o' 
 CommandRan-leaves (keygen seed net target) s s' o o' outcome ran = MakesOf-leaves (keygen_making seed net target) s s' outcome ran.1
 CommandRan-leaves (keygen_seeds seed net target) s s' o o' outcome ran = MakesOf-leaves (seeds_making seed net target) s s' outcome ran.1
 CommandRan-leaves (migrate keys target) s s' o o' outcome ran = MakesOf-leaves (migrate_making keys target) s s' outcome ran.1
-CommandRan-leaves (replay net workers) s s' o o' outcome ran = ReplayRan-kept net s s' o o' outcome ran
+CommandRan-leaves (replay net workers) s s' o o' outcome ran = NetRan-kept view_text net s s' o o' outcome ran
+CommandRan-leaves (logs net) s s' o o' outcome ran = NetRan-kept logs_text net s s' o o' outcome ran
 
 kept_unread : (words : List (List ℕ)) (s s' : ShelfState) (o o' : SinkState) (outcome : Outcome) → is_form words ≡ false → Ran words s s' o o' outcome → s'.holds ≡ s.holds
 kept_unread words s s' o o' (Usage place) refused ran = ap (λ (x : ShelfState). x.holds) ran.shelf_stays
@@ -227,7 +242,8 @@ CommandRan-asked (sum file) s s' o o' outcome ran = (file ∷ [], refl, SumRan-a
 CommandRan-asked (keygen seed net target) s s' o o' outcome ran = (net ∷ target ∷ [], refl, MakesOf-asked (keygen_making seed net target) s s' outcome ran.1)
 CommandRan-asked (keygen_seeds seed net target) s s' o o' outcome ran = (net ∷ target ∷ [], refl, MakesOf-asked (seeds_making seed net target) s s' outcome ran.1)
 CommandRan-asked (migrate keys target) s s' o o' outcome ran = (keys ∷ target ∷ [], refl, MakesOf-asked (migrate_making keys target) s s' outcome ran.1)
-CommandRan-asked (replay net workers) s s' o o' outcome ran = ReplayRan-asked net s s' o o' outcome ran
+CommandRan-asked (replay net workers) s s' o o' outcome ran = NetRan-asked view_text net s s' o o' outcome ran
+CommandRan-asked (logs net) s s' o o' outcome ran = NetRan-asked logs_text net s s' o o' outcome ran
 
 CommandRan-asked_all : (command : Task) (s s' : ShelfState) (o o' : SinkState) → CommandRan command s s' o o' Done
     → (files : List (List ℕ)) × AsksFor s command files × (s'.asked ≡ grown s.asked files)
@@ -235,7 +251,8 @@ CommandRan-asked_all (sum file) s s' o o' ran = (file ∷ [], refl, ran.summed.r
 CommandRan-asked_all (keygen seed net target) s s' o o' ran = (net ∷ target ∷ [], refl, MakesOf-asked_all (keygen_making seed net target) s s' ran.1)
 CommandRan-asked_all (keygen_seeds seed net target) s s' o o' ran = (net ∷ target ∷ [], refl, MakesOf-asked_all (seeds_making seed net target) s s' ran.1)
 CommandRan-asked_all (migrate keys target) s s' o o' ran = (keys ∷ target ∷ [], refl, MakesOf-asked_all (migrate_making keys target) s s' ran.1)
-CommandRan-asked_all (replay net workers) s s' o o' ran = ReplayRan-asked_all net s s' o o' ran
+CommandRan-asked_all (replay net workers) s s' o o' ran = NetRan-asked_all view_text net s s' o o' ran
+CommandRan-asked_all (logs net) s s' o o' ran = NetRan-asked_all logs_text net s s' o o' ran
 
 asked_all : (command : Task) (s s' : ShelfState) (o o' : SinkState) (outcome : Outcome) → outcome ≡ Done → CommandRan command s s' o o' outcome
     → (files : List (List ℕ)) × AsksFor s command files × (s'.asked ≡ grown s.asked files)
@@ -256,7 +273,8 @@ CommandRan-silent (sum file) s s' o o' outcome not_done not_sink p = SumRan-sile
 CommandRan-silent (keygen seed net target) s s' o o' outcome not_done not_sink p = p.0
 CommandRan-silent (keygen_seeds seed net target) s s' o o' outcome not_done not_sink p = p.0
 CommandRan-silent (migrate keys target) s s' o o' outcome not_done not_sink p = p.0
-CommandRan-silent (replay net workers) s s' o o' outcome not_done not_sink p = ReplayRan-silent net s s' o o' outcome not_done not_sink p
+CommandRan-silent (replay net workers) s s' o o' outcome not_done not_sink p = NetRan-silent view_text net s s' o o' outcome not_done not_sink p
+CommandRan-silent (logs net) s s' o o' outcome not_done not_sink p = NetRan-silent logs_text net s s' o o' outcome not_done not_sink p
 
 silent : (words : List (List ℕ)) (s s' : ShelfState) (o o' : SinkState) (outcome : Outcome) → (outcome ≡ Done → ⊥) → (outcome ≡ SinkFault → ⊥) → Ran words s s' o o' outcome → o' ≡ o
 silent words s s' o o' (Usage place) not_done not_sink ran = ran.out_stays
@@ -279,7 +297,8 @@ missing_cause (sum file) s s' o o' name ran = rw ran.1.0 ran.1.1.answer
 missing_cause (keygen seed net target) s s' o o' name ran = MakesOf-missing (keygen_making seed net target) s s' name ran.1
 missing_cause (keygen_seeds seed net target) s s' o o' name ran = MakesOf-missing (seeds_making seed net target) s s' name ran.1
 missing_cause (migrate keys target) s s' o o' name ran = MakesOf-missing (migrate_making keys target) s s' name ran.1
-missing_cause (replay net workers) s s' o o' name ran = ReplayRan-missing net name s s' o o' ran
+missing_cause (replay net workers) s s' o o' name ran = NetRan-missing view_text net name s s' o o' ran
+missing_cause (logs net) s s' o o' name ran = NetRan-missing logs_text net name s s' o o' ran
 
 missing : (words : List (List ℕ)) (s s' : ShelfState) (o o' : SinkState) (outcome : Outcome) (name : List ℕ) → outcome ≡ Missing name → Ran words s s' o o' outcome
     → (s.holds name ≡ absent) ⊎ FailsUntold (s.holds name) s.faults s'.faults
@@ -294,7 +313,8 @@ long_cause (sum file) s s' o o' name ran = (transcript_limit, (ran.1.0, refl), r
 long_cause (keygen seed net target) s s' o o' name ran = (manifest_limit, (ran.1.0, refl), MakesOf-long (keygen_making seed net target) s s' name ran.1)
 long_cause (keygen_seeds seed net target) s s' o o' name ran = (manifest_limit, (ran.1.0, refl), MakesOf-long (seeds_making seed net target) s s' name ran.1)
 long_cause (migrate keys target) s s' o o' name ran = (key_file_limit, (ran.1.0, refl), MakesOf-long (migrate_making keys target) s s' name ran.1)
-long_cause (replay net workers) s s' o o' name ran = ReplayRan-long net name s s' o o' ran
+long_cause (replay net workers) s s' o o' name ran = NetRan-long view_text net name s s' o o' ran
+long_cause (logs net) s s' o o' name ran = NetRan-long logs_text net name s s' o o' ran
 
 too_long : (command : Task) (s s' : ShelfState) (o o' : SinkState) (outcome : Outcome) (name : List ℕ) → outcome ≡ TooLong name → CommandRan command s s' o o' outcome
     → (limit : ℕ) × HasLimit s command name limit × (IsHeldAbove (s.holds name) limit ⊎ FailsUntold (s.holds name) s.faults s'.faults)
@@ -323,7 +343,8 @@ fault_cause (sum file) s s' o o' name bytes fault told ran =
 fault_cause (keygen seed net target) s s' o o' name bytes fault told ran = absurd (no_fault_for_keys seed (manifest_of ran.1.1.bytes) fault ran.1.1.holds)
 fault_cause (keygen_seeds seed net target) s s' o o' name bytes fault told ran = absurd (no_fault_for_seeds seed (manifest_of ran.1.1.bytes) fault ran.1.1.holds)
 fault_cause (migrate keys target) s s' o o' name bytes fault told ran = absurd (no_fault_for_pads (keys_from_bytes ran.1.1.bytes) fault ran.1.1.holds)
-fault_cause (replay net workers) s s' o o' name bytes fault told ran = absurd (ReplayRan-transcript net name fault s s' o o' ran)
+fault_cause (replay net workers) s s' o o' name bytes fault told ran = absurd (NetRan-transcript view_text net name fault s s' o o' ran)
+fault_cause (logs net) s s' o o' name bytes fault told ran = absurd (NetRan-transcript logs_text net name fault s s' o o' ran)
 
 malformed : (words : List (List ℕ)) (s s' : ShelfState) (o o' : SinkState) (outcome : Outcome) (name bytes : List ℕ) (fault : TranscriptFault)
     → outcome ≡ Malformed name (Transcript fault) → s.holds name ≡ held bytes → Ran words s s' o o' outcome → Refused bytes fault
@@ -355,7 +376,8 @@ CommandRan-last (sum file) s s' o o' outcome name tells p = SumRan-last file s s
 CommandRan-last (keygen seed net target) s s' o o' outcome name tells p = MakesOf-last (keygen_making seed net target) s s' outcome name tells p.1
 CommandRan-last (keygen_seeds seed net target) s s' o o' outcome name tells p = MakesOf-last (seeds_making seed net target) s s' outcome name tells p.1
 CommandRan-last (migrate keys target) s s' o o' outcome name tells p = MakesOf-last (migrate_making keys target) s s' outcome name tells p.1
-CommandRan-last (replay net workers) s s' o o' outcome name tells p = ReplayRan-last net s s' o o' outcome name tells p
+CommandRan-last (replay net workers) s s' o o' outcome name tells p = NetRan-last view_text net s s' o o' outcome name tells p
+CommandRan-last (logs net) s s' o o' outcome name tells p = NetRan-last logs_text net s s' o o' outcome name tells p
 
 last_asked : (words : List (List ℕ)) (s s' : ShelfState) (o o' : SinkState) (outcome : Outcome) (name : List ℕ) → TellsName outcome name → Ran words s s' o o' outcome → LastAsked name s s'
 last_asked words s s' o o' (Usage place) name tells ran = elim tells [ inl e ↦ absurd cc | inr other ↦ elim other [ inl e ↦ absurd cc | inr m ↦ let e = m.1 in absurd cc ] ]
@@ -366,14 +388,16 @@ shelf_rose (sum file) s s' o o' ran = ran.1.answer
 shelf_rose (keygen seed net target) s s' o o' ran = MakesOf-rose (keygen_making seed net target) s s' ran.1
 shelf_rose (keygen_seeds seed net target) s s' o o' ran = MakesOf-rose (seeds_making seed net target) s s' ran.1
 shelf_rose (migrate keys target) s s' o o' ran = MakesOf-rose (migrate_making keys target) s s' ran.1
-shelf_rose (replay net workers) s s' o o' ran = ReplayRan-shelf_rose net s s' o o' ran
+shelf_rose (replay net workers) s s' o o' ran = NetRan-shelf_rose view_text net s s' o o' ran
+shelf_rose (logs net) s s' o o' ran = NetRan-shelf_rose logs_text net s s' o o' ran
 
 sink_rose : (command : Task) (s s' : ShelfState) (o o' : SinkState) → CommandRan command s s' o o' SinkFault → Rose o.faults o'.faults
 sink_rose (sum file) s s' o o' ran = ran.1.put.answer.1
 sink_rose (keygen seed net target) s s' o o' ran = absurd ran.1
 sink_rose (keygen_seeds seed net target) s s' o o' ran = absurd ran.1
 sink_rose (migrate keys target) s s' o o' ran = absurd ran.1
-sink_rose (replay net workers) s s' o o' ran = ReplayRan-sink_rose net s s' o o' ran
+sink_rose (replay net workers) s s' o o' ran = NetRan-sink_rose view_text net s s' o o' ran
+sink_rose (logs net) s s' o o' ran = NetRan-sink_rose logs_text net s s' o o' ran
 
 shelf_cause : (words : List (List ℕ)) (s s' : ShelfState) (o o' : SinkState) (outcome : Outcome) → outcome ≡ ShelfFault → Ran words s s' o o' outcome → Rose s.faults s'.faults
 shelf_cause words s s' o o' outcome e ran =
@@ -516,6 +540,7 @@ MakesFile-run c m silent ran =
 MakesFiles-ran : (c : Call) (command : Task) (m : Making) → making_of command ≡ Some m → CommandRan command c.shelf c.shelf' c.out c.out' c.outcome → MakesFile c m
 MakesFiles-ran c (sum file) m e ran = absurd cc
 MakesFiles-ran c (replay net workers) m e ran = absurd cc
+MakesFiles-ran c (logs net) m e ran = absurd cc
 MakesFiles-ran c (keygen seed net target) m e ran = let same : keygen_making seed net target ≡ m = cc in rw (← same) (MakesFile-run c (keygen_making seed net target) ran.0 ran.1)
 MakesFiles-ran c (keygen_seeds seed net target) m e ran = let same : seeds_making seed net target ≡ m = cc in rw (← same) (MakesFile-run c (seeds_making seed net target) ran.0 ran.1)
 MakesFiles-ran c (migrate keys target) m e ran = let same : migrate_making keys target ≡ m = cc in rw (← same) (MakesFile-run c (migrate_making keys target) ran.0 ran.1)
@@ -562,8 +587,17 @@ WritesPads-run c ran = λ e file target read p told.
 pub PrintsView-run : (c : Call) → HasRun c → PrintsView c
 PrintsView-run c ran = λ e net workers p.
     let P : Outcome → Type 0 = λ x. CommandRan (replay net workers) c.shelf c.shelf' c.out c.out' x in
-    ReplayRan-prints net c.shelf c.shelf' c.out c.out' (subst P e (HasRun-as c (replay net workers) p ran))
+    NetRan-prints view_text net c.shelf c.shelf' c.out c.out' (subst P e (HasRun-as c (replay net workers) p ran))
 
 pub RunsNets-run : (c : Call) → HasRun c → RunsNets c
 RunsNets-run c ran = λ net workers files made p needed holds is calm_shelf calm_sink.
-    ReplayRan-completes net c.shelf c.shelf' c.out c.out' c.outcome files made needed holds is calm_shelf calm_sink (HasRun-as c (replay net workers) p ran)
+    NetRan-completes view_text net c.shelf c.shelf' c.out c.out' c.outcome files made needed holds is calm_shelf calm_sink (HasRun-as c (replay net workers) p ran)
+
+pub PrintsLogs-run : (c : Call) → HasRun c → PrintsLogs c
+PrintsLogs-run c ran = λ e net p.
+    let P : Outcome → Type 0 = λ x. CommandRan (logs net) c.shelf c.shelf' c.out c.out' x in
+    NetRan-prints logs_text net c.shelf c.shelf' c.out c.out' (subst P e (HasRun-as c (logs net) p ran))
+
+pub RunsLogs-run : (c : Call) → HasRun c → RunsLogs c
+RunsLogs-run c ran = λ net files made p needed holds is calm_shelf calm_sink.
+    NetRan-completes logs_text net c.shelf c.shelf' c.out c.out' c.outcome files made needed holds is calm_shelf calm_sink (HasRun-as c (logs net) p ran)

@@ -1,12 +1,14 @@
 -- What a command did is what the call did.
-use Rattle.std.proofs.Common.{◌≡◌, ◌≤◌, ◌&&◌, nat_le, Bool, true, false, cond, ℕ, List, Option, None, Some, refl, sym, subst, arith}
+use Rattle.std.proofs.Common.{◌≡◌, ◌≤◌, ℕ, List, Option, None, Some, arith}
 use Rattle.std.proofs.lemmas.Grind.{common_steps}
 use Rattle.dc_spec.specs.Outside.{ShelfState, SinkState}
 use Rattle.dc_field.specs.NumberInText.{number_in}
-use Rattle.dc_cli.specs.Forms.{where_between, number_between}
-use Rattle.dc_cli.specs.Commands.{Task, sum, keygen, keygen_seeds, migrate, replay, SpellsWorkers, unsaid, said, Spells, IsRunnable}
+use Rattle.dc_cli.specs.Forms.{where_between}
+use Rattle.dc_cli.specs.Commands.{Task, sum, keygen, keygen_seeds, migrate, replay, logs, SpellsWorkers, unsaid, said, Spells, IsRunnable}
 use Rattle.dc_cli.specs.Ran.{Ran, CommandRan}
-use Rattle.dc_cli.proofs.ReplayLemmas.{ReplayRan-usage}
+use Rattle.dc_run_texts.specs.View.{view_text}
+use Rattle.dc_run_texts.specs.Logs.{logs_text}
+use Rattle.dc_cli.proofs.ReplayLemmas.{NetRan-usage}
 use Rattle.dc_cli.specs.declared.outcome.Outcome.{Outcome}
 use Rattle.dc_cli.specs.declared.outcome.Outcome.TheVariants.{Usage}
 
@@ -16,7 +18,8 @@ CommandRan-usage (sum file) s s' o o' place ran = ran.1
 CommandRan-usage (keygen seed net target) s s' o o' place ran = ran.1
 CommandRan-usage (keygen_seeds seed net target) s s' o o' place ran = ran.1
 CommandRan-usage (migrate keys target) s s' o o' place ran = ran.1
-CommandRan-usage (replay net workers) s s' o o' place ran = ReplayRan-usage net s s' o o' place ran
+CommandRan-usage (replay net workers) s s' o o' place ran = NetRan-usage view_text net s s' o o' place ran
+CommandRan-usage (logs net) s s' o o' place ran = NetRan-usage logs_text net s s' o o' place ran
 
 pub Ran-command : (words : List (List ℕ)) (command : Task) (s s' : ShelfState) (o o' : SinkState) (outcome : Outcome) → Spells words command → CommandRan command s s' o o' outcome
     → Ran words s s' o o' outcome
@@ -38,3 +41,4 @@ Spells-runnable words (keygen seed net target) p = tt
 Spells-runnable words (keygen_seeds seed net target) p = tt
 Spells-runnable words (migrate keys target) p = tt
 Spells-runnable words (replay net workers) p = workers_limits p.2.rest workers p.2.workers_are
+Spells-runnable words (logs net) p = tt

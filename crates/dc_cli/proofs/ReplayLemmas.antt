@@ -1,16 +1,14 @@
--- What follows from what `replay` did.
-use Rattle.std.proofs.Common.{◌≡◌, ◌≤◌, ◌⊎◌, ℕ, List, [], ◌∷◌, ◌++◌, length, All, Option, Result, Ok, Err, inl, inr, refl, sym, ap, ◌∙◌, subst, append-nil, append_assoc}
+-- What follows from what `replay` or `logs` did.
+use Rattle.std.proofs.Common.{◌≡◌, ◌⊎◌, ℕ, List, [], ◌∷◌, ◌++◌, Option, Result, Ok, Err, inl, inr, refl, sym, ap, ◌∙◌, subst, append-nil}
 use Rattle.std.proofs.lemmas.List.{map-append}
-use Rattle.dc_spec.specs.Outside.{ShelfState, SinkState, Holding, absent, held, Rose, Tells, grown}
-use Rattle.dc_spec.specs.Net.{Net}
-use Rattle.dc_edge.specs.Shelf.{Reads, IsHeldAbove, FailsUntold}
+use Rattle.dc_spec.specs.Outside.{ShelfState, SinkState, Holding, absent, Rose, grown}
+use Rattle.dc_spec.specs.Net.{Net, Run}
+use Rattle.dc_edge.specs.Shelf.{IsHeldAbove, FailsUntold}
 use Rattle.dc_edge.specs.declared.fault.ShelfFault.{ShelfFault}
 use Rattle.dc_edge.specs.declared.fault.ShelfFault.TheVariants as causes
 use Rattle.dc_edge.proofs.PutLemmas.{grown-grown, Rose-earlier}
-use Rattle.dc_net_rules.specs.Runs.{run_of}
-use Rattle.dc_run_texts.specs.View.{view_text}
 use Rattle.dc_superpose.specs.declared.fault.TranscriptFault.{TranscriptFault}
-use Rattle.dc_net_files.specs.Steps.{File, Step, needs, makes, Reader, names_of, bytes_of}
+use Rattle.dc_net_files.specs.Steps.{File, Step, makes, Reader, names_of, bytes_of}
 use Rattle.dc_net_files.specs.Parts.{net_step}
 use Rattle.dc_net_files.specs.Reading.{AreNeeded, Gave, Stops, Refuses, Ended}
 use Rattle.dc_net_files.specs.Settled.{AreHeld, Settles}
@@ -18,11 +16,11 @@ use Rattle.dc_net_files.specs.declared.fault.NetFileFault.{NetFileFault}
 use Rattle.dc_net_files.specs.declared.fault.NetFileFault.TheVariants as files
 use Rattle.dc_net_files.specs.declared.fault.NotRead.{NotRead}
 use Rattle.dc_net_files.specs.declared.fault.NotRead.TheVariants as refusals
-use Rattle.dc_cli.specs.Replaying.{file_fault_of, outcome_of, ReadsNet, RefusesNet, ReplayRan, ViewPrinted}
+use Rattle.dc_cli.specs.Replaying.{file_fault_of, outcome_of, ReadsNet, RefusesNet, NetRan, RunPrinted}
 use Rattle.dc_cli.specs.declared.outcome.FileFault.{FileFault}
 use Rattle.dc_cli.specs.declared.outcome.FileFault.TheVariants.{Transcript}
 use Rattle.dc_cli.specs.declared.outcome.Outcome.{Outcome}
-use Rattle.dc_cli.specs.declared.outcome.Outcome.TheVariants.{Done, Usage, Missing, TooLong, Malformed, Disagree, ShelfFault as ShelfFailed, SinkFault, NoMemory}
+use Rattle.dc_cli.specs.declared.outcome.Outcome.TheVariants.{Done, Usage, Missing, TooLong, Malformed, ShelfFault as ShelfFailed, SinkFault, NoMemory}
 use Rattle.dc_cli.specs.Promises.{TellsName, NamesOfNet, NeedsOfNet, next_name}
 use Rattle.dc_cli.proofs.ShelfLemmas.{LastAsked, AskedUpTo}
 
@@ -80,11 +78,11 @@ Stops-rose : {A : Type 0} (reader : Reader A) (name : List ℕ) (s s' : ShelfSta
 Stops-rose reader name s s' p = Rose-earlier s.faults p.middle.faults s'.faults p.gave.counted p.read.answer
 
 -- all files stay
-pub ReplayRan-kept : (name : List ℕ) (s s' : ShelfState) (o o' : SinkState) (outcome : Outcome) → ReplayRan name s s' o o' outcome → s'.holds ≡ s.holds
-ReplayRan-kept name s s' o o' Done p = Ended-kept (net_step name) s s' (Ok p.net) p.reads.read
-ReplayRan-kept name s s' o o' SinkFault p = Ended-kept (net_step name) s s' (Ok p.1.net) p.1.reads.read
-ReplayRan-kept name s s' o o' NoMemory p = Ended-kept (net_step name) s s' p.1.0 p.1.1.read
-ReplayRan-kept name s s' o o' _ p = Ended-kept (net_step name) s s' (Err p.1.refusal) p.1.reads.read
+pub NetRan-kept : (text : Net → Run → List ℕ) (name : List ℕ) (s s' : ShelfState) (o o' : SinkState) (outcome : Outcome) → NetRan text name s s' o o' outcome → s'.holds ≡ s.holds
+NetRan-kept text name s s' o o' Done p = Ended-kept (net_step name) s s' (Ok p.net) p.reads.read
+NetRan-kept text name s s' o o' SinkFault p = Ended-kept (net_step name) s s' (Ok p.1.net) p.1.reads.read
+NetRan-kept text name s s' o o' NoMemory p = Ended-kept (net_step name) s s' p.1.0 p.1.1.read
+NetRan-kept text name s s' o o' _ p = Ended-kept (net_step name) s s' (Err p.1.refusal) p.1.reads.read
 
 -- no refusal is a command line that is not a form, or an end
 refusal_not : (refusal : NotRead) (place : ℕ) → Usage place ≡ outcome_of refusal → ⊥
@@ -95,8 +93,8 @@ refusal_not (refusals.Disagree fault) place e = absurd cc
 refusal_not refusals.ShelfFault place e = absurd cc
 refusal_not refusals.NoMemory place e = absurd cc
 
-pub ReplayRan-usage : (name : List ℕ) (s s' : ShelfState) (o o' : SinkState) (place : ℕ) → ReplayRan name s s' o o' (Usage place) → ⊥
-ReplayRan-usage name s s' o o' place p = refusal_not p.1.refusal place p.1.outcome_is
+pub NetRan-usage : (text : Net → Run → List ℕ) (name : List ℕ) (s s' : ShelfState) (o o' : SinkState) (place : ℕ) → NetRan text name s s' o o' (Usage place) → ⊥
+NetRan-usage text name s s' o o' place p = refusal_not p.1.refusal place p.1.outcome_is
 
 -- a file that is told as missing was needed, and was not given
 missing_of : (name seen : List ℕ) (s s' : ShelfState) (refusal : NotRead) → Missing seen ≡ outcome_of refusal → ReadsNet name s s' (Err refusal)
@@ -108,9 +106,9 @@ missing_of name seen s s' (refusals.Disagree fault) e p = absurd cc
 missing_of name seen s s' refusals.ShelfFault e p = absurd cc
 missing_of name seen s s' refusals.NoMemory e p = absurd cc
 
-pub ReplayRan-missing : (name seen : List ℕ) (s s' : ShelfState) (o o' : SinkState) → ReplayRan name s s' o o' (Missing seen)
+pub NetRan-missing : (text : Net → Run → List ℕ) (name seen : List ℕ) (s s' : ShelfState) (o o' : SinkState) → NetRan text name s s' o o' (Missing seen)
     → (s.holds seen ≡ absent) ⊎ FailsUntold (s.holds seen) s.faults s'.faults
-ReplayRan-missing name seen s s' o o' p = Stops-missing (net_step name) seen s s' (missing_of name seen s s' p.1.refusal p.1.outcome_is p.1.reads)
+NetRan-missing text name seen s s' o o' p = Stops-missing (net_step name) seen s s' (missing_of name seen s s' p.1.refusal p.1.outcome_is p.1.reads)
 
 -- and so for a file that is told as too long
 pub long_of : (name seen : List ℕ) (s s' : ShelfState) (refusal : NotRead) → TooLong seen ≡ outcome_of refusal → ReadsNet name s s' (Err refusal)
@@ -133,16 +131,16 @@ fault_last name seen fault s s' (refusals.Disagree found) e p = absurd cc
 fault_last name seen fault s s' refusals.ShelfFault e p = absurd cc
 fault_last name seen fault s s' refusals.NoMemory e p = absurd cc
 
-pub ReplayRan-last_missing : (name seen : List ℕ) (s s' : ShelfState) (o o' : SinkState) → ReplayRan name s s' o o' (Missing seen) → LastAsked seen s s'
-ReplayRan-last_missing name seen s s' o o' p =
+pub NetRan-last_missing : (text : Net → Run → List ℕ) (name seen : List ℕ) (s s' : ShelfState) (o o' : SinkState) → NetRan text name s s' o o' (Missing seen) → LastAsked seen s s'
+NetRan-last_missing text name seen s s' o o' p =
     Stops-last (net_step name) seen causes.Missing s s' (λ e. absurd cc) (missing_of name seen s s' p.1.refusal p.1.outcome_is p.1.reads)
 
-pub ReplayRan-last_long : (name seen : List ℕ) (s s' : ShelfState) (o o' : SinkState) → ReplayRan name s s' o o' (TooLong seen) → LastAsked seen s s'
-ReplayRan-last_long name seen s s' o o' p =
+pub NetRan-last_long : (text : Net → Run → List ℕ) (name seen : List ℕ) (s s' : ShelfState) (o o' : SinkState) → NetRan text name s s' o o' (TooLong seen) → LastAsked seen s s'
+NetRan-last_long text name seen s s' o o' p =
     Stops-last (net_step name) seen causes.TooLong s s' (λ e. absurd cc) (long_of name seen s s' p.1.refusal p.1.outcome_is p.1.reads)
 
-pub ReplayRan-last_fault : (name seen : List ℕ) (fault : FileFault) (s s' : ShelfState) (o o' : SinkState) → ReplayRan name s s' o o' (Malformed seen fault) → LastAsked seen s s'
-ReplayRan-last_fault name seen fault s s' o o' p = fault_last name seen fault s s' p.1.refusal p.1.outcome_is p.1.reads
+pub NetRan-last_fault : (text : Net → Run → List ℕ) (name seen : List ℕ) (fault : FileFault) (s s' : ShelfState) (o o' : SinkState) → NetRan text name s s' o o' (Malformed seen fault) → LastAsked seen s s'
+NetRan-last_fault text name seen fault s s' o o' p = fault_last name seen fault s s' p.1.refusal p.1.outcome_is p.1.reads
 
 -- the shelf's fault and the output's fault have their causes
 rose_of : (name : List ℕ) (s s' : ShelfState) (refusal : NotRead) → ShelfFailed ≡ outcome_of refusal → ReadsNet name s s' (Err refusal) → Rose s.faults s'.faults
@@ -153,11 +151,11 @@ rose_of name s s' (refusals.Malformed told fault) e p = absurd cc
 rose_of name s s' (refusals.Disagree fault) e p = absurd cc
 rose_of name s s' refusals.NoMemory e p = absurd cc
 
-pub ReplayRan-shelf_rose : (name : List ℕ) (s s' : ShelfState) (o o' : SinkState) → ReplayRan name s s' o o' ShelfFailed → Rose s.faults s'.faults
-ReplayRan-shelf_rose name s s' o o' p = rose_of name s s' p.1.refusal p.1.outcome_is p.1.reads
+pub NetRan-shelf_rose : (text : Net → Run → List ℕ) (name : List ℕ) (s s' : ShelfState) (o o' : SinkState) → NetRan text name s s' o o' ShelfFailed → Rose s.faults s'.faults
+NetRan-shelf_rose text name s s' o o' p = rose_of name s s' p.1.refusal p.1.outcome_is p.1.reads
 
-pub ReplayRan-sink_rose : (name : List ℕ) (s s' : ShelfState) (o o' : SinkState) → ReplayRan name s s' o o' SinkFault → Rose o.faults o'.faults
-ReplayRan-sink_rose name s s' o o' p = p.1.put.answer.1
+pub NetRan-sink_rose : (text : Net → Run → List ℕ) (name : List ℕ) (s s' : ShelfState) (o o' : SinkState) → NetRan text name s s' o o' SinkFault → Rose o.faults o'.faults
+NetRan-sink_rose text name s s' o o' p = p.1.put.answer.1
 
 -- no file of a net is a transcript
 no_transcript : (fault : TranscriptFault) (found : NetFileFault) → Transcript fault ≡ file_fault_of found → ⊥
@@ -167,16 +165,16 @@ no_transcript fault (files.Stream found) e = absurd cc
 no_transcript fault (files.Script found) e = absurd cc
 
 -- where neither all was done nor the output failed, nothing was printed
-pub ReplayRan-silent : (name : List ℕ) (s s' : ShelfState) (o o' : SinkState) (outcome : Outcome) → (outcome ≡ Done → ⊥) → (outcome ≡ SinkFault → ⊥)
-    → ReplayRan name s s' o o' outcome → o' ≡ o
-ReplayRan-silent name s s' o o' Done not_done not_sink p = absurd (not_done refl)
-ReplayRan-silent name s s' o o' SinkFault not_done not_sink p = absurd (not_sink refl)
-ReplayRan-silent name s s' o o' NoMemory not_done not_sink p = p.0
-ReplayRan-silent name s s' o o' _ not_done not_sink p = p.0
+pub NetRan-silent : (text : Net → Run → List ℕ) (name : List ℕ) (s s' : ShelfState) (o o' : SinkState) (outcome : Outcome) → (outcome ≡ Done → ⊥) → (outcome ≡ SinkFault → ⊥)
+    → NetRan text name s s' o o' outcome → o' ≡ o
+NetRan-silent text name s s' o o' Done not_done not_sink p = absurd (not_done refl)
+NetRan-silent text name s s' o o' SinkFault not_done not_sink p = absurd (not_sink refl)
+NetRan-silent text name s s' o o' NoMemory not_done not_sink p = p.0
+NetRan-silent text name s s' o o' _ not_done not_sink p = p.0
 
 -- what was printed where all was done
-pub ReplayRan-prints : (name : List ℕ) (s s' : ShelfState) (o o' : SinkState) → ReplayRan name s s' o o' Done → ViewPrinted name s s' o o'
-ReplayRan-prints name s s' o o' p = record {
+pub NetRan-prints : (text : Net → Run → List ℕ) (name : List ℕ) (s s' : ShelfState) (o o' : SinkState) → NetRan text name s s' o o' Done → RunPrinted text name s s' o o'
+NetRan-prints text name s s' o o' p = record {
   files = p.reads.read.files;
   needed = p.reads.read.gave.needed;
   told = p.reads.read.gave.bytes;
@@ -203,31 +201,31 @@ refuses_not name s s' outcome files net needed holds made calm p =
     p.outcome_is ∙ ap outcome_of (settles_made net [] (net_step name (bytes_of files)) p.refusal made (p.reads.settled files needed holds calm))
 
 -- where the files are held and make a net, all is done, or memory ran out
-pub ReplayRan-completes : (name : List ℕ) (s s' : ShelfState) (o o' : SinkState) (outcome : Outcome) (files : List File) (net : Net)
+pub NetRan-completes : (text : Net → Run → List ℕ) (name : List ℕ) (s s' : ShelfState) (o o' : SinkState) (outcome : Outcome) (files : List File) (net : Net)
     → AreNeeded (net_step name) files → AreHeld s.holds files → net_step name (bytes_of files) ≡ makes net []
-    → (Rose s.faults s'.faults → ⊥) → (Rose o.faults o'.faults → ⊥) → ReplayRan name s s' o o' outcome → (outcome ≡ Done) ⊎ (outcome ≡ NoMemory)
-ReplayRan-completes name s s' o o' Done files net needed holds made calm_shelf calm_sink p = inl refl
-ReplayRan-completes name s s' o o' SinkFault files net needed holds made calm_shelf calm_sink p = absurd (calm_sink p.1.put.answer.1)
-ReplayRan-completes name s s' o o' NoMemory files net needed holds made calm_shelf calm_sink p = inr refl
-ReplayRan-completes name s s' o o' other files net needed holds made calm_shelf calm_sink p =
+    → (Rose s.faults s'.faults → ⊥) → (Rose o.faults o'.faults → ⊥) → NetRan text name s s' o o' outcome → (outcome ≡ Done) ⊎ (outcome ≡ NoMemory)
+NetRan-completes text name s s' o o' Done files net needed holds made calm_shelf calm_sink p = inl refl
+NetRan-completes text name s s' o o' SinkFault files net needed holds made calm_shelf calm_sink p = absurd (calm_sink p.1.put.answer.1)
+NetRan-completes text name s s' o o' NoMemory files net needed holds made calm_shelf calm_sink p = inr refl
+NetRan-completes text name s s' o o' other files net needed holds made calm_shelf calm_sink p =
     inr (refuses_not name s s' other files net needed holds made calm_shelf p.1)
 
 -- a name that the outcome reports is the last that was asked for
-pub ReplayRan-last : (name : List ℕ) (s s' : ShelfState) (o o' : SinkState) (outcome : Outcome) (seen : List ℕ) → TellsName outcome seen
-    → ReplayRan name s s' o o' outcome → LastAsked seen s s'
-ReplayRan-last name s s' o o' outcome seen tells p =
-    let P : Outcome → Type 0 = λ x. ReplayRan name s s' o o' x in
+pub NetRan-last : (text : Net → Run → List ℕ) (name : List ℕ) (s s' : ShelfState) (o o' : SinkState) (outcome : Outcome) (seen : List ℕ) → TellsName outcome seen
+    → NetRan text name s s' o o' outcome → LastAsked seen s s'
+NetRan-last text name s s' o o' outcome seen tells p =
+    let P : Outcome → Type 0 = λ x. NetRan text name s s' o o' x in
     elim tells [
-      | inl e ↦ ReplayRan-last_missing name seen s s' o o' (subst P e p)
+      | inl e ↦ NetRan-last_missing text name seen s s' o o' (subst P e p)
       | inr other ↦ elim other [
-        | inl e ↦ ReplayRan-last_long name seen s s' o o' (subst P e p)
-        | inr f ↦ ReplayRan-last_fault name seen f.0 s s' o o' (subst P f.1 p)
+        | inl e ↦ NetRan-last_long text name seen s s' o o' (subst P e p)
+        | inr f ↦ NetRan-last_fault text name seen f.0 s s' o o' (subst P f.1 p)
       ]
     ]
 
-pub ReplayRan-long : (name seen : List ℕ) (s s' : ShelfState) (o o' : SinkState) → ReplayRan name s s' o o' (TooLong seen)
+pub NetRan-long : (text : Net → Run → List ℕ) (name seen : List ℕ) (s s' : ShelfState) (o o' : SinkState) → NetRan text name s s' o o' (TooLong seen)
     → (limit : ℕ) × NeedsOfNet name s seen limit × (IsHeldAbove (s.holds seen) limit ⊎ FailsUntold (s.holds seen) s.faults s'.faults)
-ReplayRan-long name seen s s' o o' p =
+NetRan-long text name seen s s' o o' p =
     let q = long_of name seen s s' p.1.refusal p.1.outcome_is p.1.reads in
     (q.limit, record { files = q.files; needed = q.gave.needed; told = q.gave.bytes; next = q.needed }, Stops-long (net_step name) seen s s' q)
 
@@ -239,9 +237,9 @@ transcript_of_none seen fault (refusals.Disagree found) e = absurd cc
 transcript_of_none seen fault refusals.ShelfFault e = absurd cc
 transcript_of_none seen fault refusals.NoMemory e = absurd cc
 
-pub ReplayRan-transcript : (name seen : List ℕ) (fault : TranscriptFault) (s s' : ShelfState) (o o' : SinkState)
-    → ReplayRan name s s' o o' (Malformed seen (Transcript fault)) → ⊥
-ReplayRan-transcript name seen fault s s' o o' p = transcript_of_none seen fault p.1.refusal p.1.outcome_is
+pub NetRan-transcript : (text : Net → Run → List ℕ) (name seen : List ℕ) (fault : TranscriptFault) (s s' : ShelfState) (o o' : SinkState)
+    → NetRan text name s s' o o' (Malformed seen (Transcript fault)) → ⊥
+NetRan-transcript text name seen fault s s' o o' p = transcript_of_none seen fault p.1.refusal p.1.outcome_is
 
 -- a front of the names of the net was asked for
 abbrev AsksNames : List ℕ → ShelfState → ShelfState → Type 0
@@ -274,15 +272,15 @@ read_names name s s' (Err (refusals.Disagree fault)) p = gave_names name p.files
 read_names name s s' (Err refusals.ShelfFault) p = stops_names name p.0 causes.Failed s s' p.1 (λ e. absurd cc)
 read_names name s s' (Err refusals.NoMemory) p = gave_names name p.0 s s' p.1
 
-pub ReplayRan-asked : (name : List ℕ) (s s' : ShelfState) (o o' : SinkState) (outcome : Outcome) → ReplayRan name s s' o o' outcome → AsksNames name s s'
-ReplayRan-asked name s s' o o' Done p = read_names name s s' (Ok p.net) p.reads.read
-ReplayRan-asked name s s' o o' SinkFault p = read_names name s s' (Ok p.1.net) p.1.reads.read
-ReplayRan-asked name s s' o o' NoMemory p = read_names name s s' p.1.0 p.1.1.read
-ReplayRan-asked name s s' o o' _ p = read_names name s s' (Err p.1.refusal) p.1.reads.read
+pub NetRan-asked : (text : Net → Run → List ℕ) (name : List ℕ) (s s' : ShelfState) (o o' : SinkState) (outcome : Outcome) → NetRan text name s s' o o' outcome → AsksNames name s s'
+NetRan-asked text name s s' o o' Done p = read_names name s s' (Ok p.net) p.reads.read
+NetRan-asked text name s s' o o' SinkFault p = read_names name s s' (Ok p.1.net) p.1.reads.read
+NetRan-asked text name s s' o o' NoMemory p = read_names name s s' p.1.0 p.1.1.read
+NetRan-asked text name s s' o o' _ p = read_names name s s' (Err p.1.refusal) p.1.reads.read
 
 -- all names of the net, where all was done
-pub ReplayRan-asked_all : (name : List ℕ) (s s' : ShelfState) (o o' : SinkState) → ReplayRan name s s' o o' Done
+pub NetRan-asked_all : (text : Net → Run → List ℕ) (name : List ℕ) (s s' : ShelfState) (o o' : SinkState) → NetRan text name s s' o o' Done
     → (names : List (List ℕ)) × NamesOfNet name s names × (s'.asked ≡ grown s.asked names)
-ReplayRan-asked_all name s s' o o' p =
-    let v = ReplayRan-prints name s s' o o' p in
+NetRan-asked_all text name s s' o o' p =
+    let v = NetRan-prints text name s s' o o' p in
     (names_of v.files, record { files = v.files; needed = v.needed; told = v.told; names_are = rw v.made (sym (append-nil (names_of v.files))) }, v.asked)

@@ -1,5 +1,5 @@
 -- Statuses, fault lines and limits, each with its number or text, by computation.
-use Rattle.std.proofs.Common.{◌≡◌, true, pos, negsuc, [], ◌∷◌, ◌++◌, refl}
+use Rattle.std.proofs.Common.{◌≡◌, true, false, pos, negsuc, [], ◌∷◌, ◌++◌, refl}
 use Rattle.std.specs.Prelude.{codes}
 use Rattle.std.specs.Fmt.{digits}
 use Rattle.dc_spec.specs.Limits.{transcript_limit, manifest_limit, key_file_limit}
@@ -224,3 +224,14 @@ replay-workers = refl
 replay-too_many : longest_begun (codes "replay" ∷ codes "net.toml" ∷ codes "--workers" ∷ codes "65" ∷ []) ≡ 3
 unfolding digits
 replay-too_many = refl
+
+-- ---- the words of `logs`
+
+logs-form : is_form (codes "logs" ∷ codes "net.toml" ∷ []) ≡ true
+logs-form = refl
+
+logs-alone : (is_form (codes "logs" ∷ []) ≡ false) × (longest_begun (codes "logs" ∷ []) ≡ 1)
+logs-alone = (refl, refl)
+
+logs-two : (is_form (codes "logs" ∷ codes "a" ∷ codes "b" ∷ []) ≡ false) × (longest_begun (codes "logs" ∷ codes "a" ∷ codes "b" ∷ []) ≡ 2)
+logs-two = (refl, refl)

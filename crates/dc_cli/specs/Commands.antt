@@ -1,8 +1,8 @@
 -- Commands, and the words that spell them.
-use Rattle.std.specs.Prelude.{ℕ, ◌+◌, ◌≤◌, max, ◌≡◌, false, List, [], ◌∷◌, codes, IsTrue, Some, Result, Ok, Err}
+use Rattle.std.specs.Prelude.{ℕ, ◌+◌, ◌≤◌, ◌≡◌, false, List, [], ◌∷◌, codes, IsTrue, Some, Result, Ok, Err}
 use Rattle.dc_cli.specs.Forms.{Slot, literal, name, number, keygen_slots, seeds_slots, is_name, seed_in, number_between, begun, spells, is_form, longest_begun}
 use Rattle.dc_cli.specs.declared.command.Command.{Command}
-use Rattle.dc_cli.specs.declared.command.Command.TheVariants.{Sum, Keygen, KeygenSeeds, Migrate, Replay}
+use Rattle.dc_cli.specs.declared.command.Command.TheVariants.{Sum, Keygen, KeygenSeeds, Migrate, Replay, Logs}
 
 -- a command with its arguments
 pub data Task : Type 0 where
@@ -11,6 +11,7 @@ pub data Task : Type 0 where
   keygen_seeds : List ℕ → List ℕ → List ℕ → Task
   migrate : List ℕ → List ℕ → Task
   replay : List ℕ → ℕ → Task
+  logs : List ℕ → Task
 
 -- the words spell a seed, the name of a manifest and the name of the key file that is written, and these are left
 pub record SpellsKeygen (words : List (List ℕ)) (seed net target : List ℕ) (flags : List (List ℕ)) : Type 0 where
@@ -43,6 +44,7 @@ Spells words (keygen seed net target) = (rest : List (List ℕ)) × (words ≡ c
 Spells words (keygen_seeds seed net target) = (rest : List (List ℕ)) × (words ≡ codes "keygen" ∷ rest) × SpellsKeygen rest seed net target (codes "--seeds" ∷ [])
 Spells words (migrate keys target) = (words ≡ codes "migrate" ∷ keys ∷ target ∷ []) × IsTrue (is_name keys) × IsTrue (is_name target)
 Spells words (replay net workers) = (rest : List (List ℕ)) × (words ≡ codes "replay" ∷ rest) × SpellsReplay rest net workers
+Spells words (logs net) = (words ≡ codes "logs" ∷ net ∷ []) × IsTrue (is_name net)
 
 -- the command that was read
 abbrev pub task_of : Command → Task
@@ -51,6 +53,7 @@ task_of (Keygen seed net target) = keygen seed net.now target.now
 task_of (KeygenSeeds seed net target) = keygen_seeds seed net.now target.now
 task_of (Migrate keys target) = migrate keys.now target.now
 task_of (Replay net workers) = replay net.now workers
+task_of (Logs net) = logs net.now
 
 -- the words were read as the command that they spell, or are not a form
 abbrev pub ReadsAs : List (List ℕ) → Result Command ℕ → Type 0
@@ -105,6 +108,12 @@ ReadsAsReplay words (Ok _) = ⊥
 ReadsAsReplay words (Err place) =
     (spells (name ∷ []) words ≡ false) × (spells (name ∷ workers_slots) words ≡ false)
     × (place ≡ 1 + begun (name ∷ workers_slots) words)
+
+-- the words after `logs` were read as its name, or do not fit
+abbrev pub ReadsAsLogs : List (List ℕ) → Result Command ℕ → Type 0
+ReadsAsLogs words (Ok (Logs net)) = (words ≡ net.now ∷ []) × IsTrue (is_name net.now)
+ReadsAsLogs words (Ok _) = ⊥
+ReadsAsLogs words (Err place) = (spells (name ∷ []) words ≡ false) × (place ≡ 1 + begun (name ∷ []) words)
 
 -- the words after the name were read as a number of workers, or do not fit
 abbrev pub ReadsAsWorkers : List (List ℕ) → Result ℕ ℕ → Type 0

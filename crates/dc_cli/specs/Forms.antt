@@ -72,6 +72,7 @@ forms =
     ∷ (literal (codes "migrate") ∷ name ∷ name ∷ [])
     ∷ (literal (codes "replay") ∷ name ∷ [])
     ∷ (literal (codes "replay") ∷ name ∷ literal (codes "--workers") ∷ number 1 64 ∷ [])
+    ∷ (literal (codes "logs") ∷ name ∷ [])
     ∷ []
 
 -- the words are one of the forms

@@ -19,9 +19,11 @@ use Rattle.dc_net_files.specs.Steps.{File, Step, needs, makes, names_of, bytes_o
 use Rattle.dc_net_files.specs.Parts.{net_step}
 use Rattle.dc_net_files.specs.Reading.{AreNeeded}
 use Rattle.dc_net_files.specs.Settled.{AreHeld}
-use Rattle.dc_cli.specs.Replaying.{ViewPrinted}
+use Rattle.dc_run_texts.specs.View.{view_text}
+use Rattle.dc_run_texts.specs.Logs.{logs_text}
+use Rattle.dc_cli.specs.Replaying.{RunPrinted}
 use Rattle.dc_cli.specs.Forms.{texts, is_form, longest_begun}
-use Rattle.dc_cli.specs.Commands.{Task, sum, keygen, keygen_seeds, migrate, replay, Spells}
+use Rattle.dc_cli.specs.Commands.{Task, sum, keygen, keygen_seeds, migrate, replay, logs, Spells}
 use Rattle.dc_cli.specs.Summing.{Refused}
 use Rattle.dc_cli.specs.Making.{Making}
 use Rattle.dc_cli.specs.Keygen.{keygen_making}
@@ -72,6 +74,7 @@ AsksFor shelf (keygen seed net target) files = files ≡ net ∷ target ∷ []
 AsksFor shelf (keygen_seeds seed net target) files = files ≡ net ∷ target ∷ []
 AsksFor shelf (migrate keys target) files = files ≡ keys ∷ target ∷ []
 AsksFor shelf (replay net workers) files = NamesOfNet net shelf files
+AsksFor shelf (logs net) files = NamesOfNet net shelf files
 
 -- words that are not a form are refused, and no others are
 pub record RefusesOtherWords (c : Call) : Type 0 where
@@ -91,6 +94,7 @@ Leaves (keygen seed net target) outcome before after = LeavesOthers target outco
 Leaves (keygen_seeds seed net target) outcome before after = LeavesOthers target outcome before after
 Leaves (migrate keys target) outcome before after = LeavesOthers target outcome before after
 Leaves (replay net workers) outcome before after = after.holds ≡ before.holds
+Leaves (logs net) outcome before after = after.holds ≡ before.holds
 
 -- each file stays, unless the command of the words writes it
 pub record KeepsFiles (c : Call) : Type 0 where
@@ -127,6 +131,7 @@ HasLimit shelf (keygen seed net target) name limit = (name ≡ net) × (limit �
 HasLimit shelf (keygen_seeds seed net target) name limit = (name ≡ net) × (limit ≡ manifest_limit)
 HasLimit shelf (migrate keys target) name limit = (name ≡ keys) × (limit ≡ key_file_limit)
 HasLimit shelf (replay net workers) name limit = NeedsOfNet net shelf name limit
+HasLimit shelf (logs net) name limit = NeedsOfNet net shelf name limit
 
 -- the outcome reports a name
 abbrev pub TellsName : Outcome → List ℕ → Type 0
@@ -188,6 +193,7 @@ making_of (keygen seed net target) = Some (keygen_making seed net target)
 making_of (keygen_seeds seed net target) = Some (seeds_making seed net target)
 making_of (migrate keys target) = Some (migrate_making keys target)
 making_of (replay net workers) = None
+making_of (logs net) = None
 
 -- each of these makes its file
 abbrev pub MakesFiles : Call → Type 0
@@ -212,11 +218,21 @@ WritesPads c = c.outcome ≡ Done → (file target bytes : List ℕ) → Spells 
 
 -- where `replay` is done, the view of the run of the net that its files make was printed
 abbrev pub PrintsView : Call → Type 0
-PrintsView c = c.outcome ≡ Done → (net : List ℕ) (workers : ℕ) → Spells c.words (replay net workers) → ViewPrinted net c.shelf c.shelf' c.out c.out'
+PrintsView c = c.outcome ≡ Done → (net : List ℕ) (workers : ℕ) → Spells c.words (replay net workers) → RunPrinted view_text net c.shelf c.shelf' c.out c.out'
+
+-- where `logs` is done, the logs of the run of the net that its files make were printed
+abbrev pub PrintsLogs : Call → Type 0
+PrintsLogs c = c.outcome ≡ Done → (net : List ℕ) → Spells c.words (logs net) → RunPrinted logs_text net c.shelf c.shelf' c.out c.out'
 
 -- where the shelf holds the files of a net, each of them is needed after those before it, they make a net, and no count of faults
 -- rose, `replay` is done, or memory ran out
 abbrev pub RunsNets : Call → Type 0
 RunsNets c = (net : List ℕ) (workers : ℕ) (files : List File) (made : Net) → Spells c.words (replay net workers) → AreNeeded (net_step net) files →
+    AreHeld c.shelf.holds files → net_step net (bytes_of files) ≡ makes made [] →
+    (Rose c.shelf.faults c.shelf'.faults → ⊥) → (Rose c.out.faults c.out'.faults → ⊥) → (c.outcome ≡ Done) ⊎ (c.outcome ≡ NoMemory)
+
+-- the same of `logs`
+abbrev pub RunsLogs : Call → Type 0
+RunsLogs c = (net : List ℕ) (files : List File) (made : Net) → Spells c.words (logs net) → AreNeeded (net_step net) files →
     AreHeld c.shelf.holds files → net_step net (bytes_of files) ≡ makes made [] →
     (Rose c.shelf.faults c.shelf'.faults → ⊥) → (Rose c.out.faults c.out'.faults → ⊥) → (c.outcome ≡ Done) ⊎ (c.outcome ≡ NoMemory)

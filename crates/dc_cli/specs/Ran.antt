@@ -5,13 +5,15 @@ use Rattle.dc_edge.specs.Sink.{Puts}
 use Rattle.dc_edge.specs.declared.fault.Failed.{Failed}
 use Rattle.dc_cli.specs.Lines.{fault_line}
 use Rattle.dc_cli.specs.Forms.{is_form, longest_begun}
-use Rattle.dc_cli.specs.Commands.{Task, sum, keygen, keygen_seeds, migrate, replay, Spells}
+use Rattle.dc_cli.specs.Commands.{Task, sum, keygen, keygen_seeds, migrate, replay, logs, Spells}
 use Rattle.dc_cli.specs.Summing.{SumRan}
 use Rattle.dc_cli.specs.Making.{MakesOf}
 use Rattle.dc_cli.specs.Keygen.{keygen_making}
 use Rattle.dc_cli.specs.KeygenSeeds.{seeds_making}
 use Rattle.dc_cli.specs.Migrating.{migrate_making}
-use Rattle.dc_cli.specs.Replaying.{ReplayRan}
+use Rattle.dc_run_texts.specs.View.{view_text}
+use Rattle.dc_run_texts.specs.Logs.{logs_text}
+use Rattle.dc_cli.specs.Replaying.{NetRan}
 use Rattle.dc_cli.specs.declared.outcome.Outcome.{Outcome}
 use Rattle.dc_cli.specs.declared.outcome.Outcome.TheVariants.{Usage}
 
@@ -28,7 +30,8 @@ CommandRan (sum file) shelf shelf' out out' outcome = SumRan file shelf shelf' o
 CommandRan (keygen seed net target) shelf shelf' out out' outcome = (out' ≡ out) × MakesOf (keygen_making seed net target) shelf shelf' outcome
 CommandRan (keygen_seeds seed net target) shelf shelf' out out' outcome = (out' ≡ out) × MakesOf (seeds_making seed net target) shelf shelf' outcome
 CommandRan (migrate keys target) shelf shelf' out out' outcome = (out' ≡ out) × MakesOf (migrate_making keys target) shelf shelf' outcome
-CommandRan (replay net workers) shelf shelf' out out' outcome = ReplayRan net shelf shelf' out out' outcome
+CommandRan (replay net workers) shelf shelf' out out' outcome = NetRan view_text net shelf shelf' out out' outcome
+CommandRan (logs net) shelf shelf' out out' outcome = NetRan logs_text net shelf shelf' out out' outcome
 
 -- the command that the words spell, and what it did
 pub record RanCommand (words : List (List ℕ)) (shelf shelf' : ShelfState) (out out' : SinkState) (outcome : Outcome) : Type 0 where

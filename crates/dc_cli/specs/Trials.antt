@@ -1,5 +1,5 @@
 -- The command `trial`: the net of three numbers is made and run, and the summary of its run is put.
-use Rattle.std.specs.Prelude.{ℕ, ◌≡◌, List, Result, Ok, Err}
+use Rattle.std.specs.Prelude.{ℕ, ◌≡◌, List, Ok, Err}
 use Rattle.dc_spec.specs.Outside.{SinkState}
 use Rattle.dc_spec.specs.Net.{Net}
 use Rattle.dc_edge.specs.Sink.{Puts}

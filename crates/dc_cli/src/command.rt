@@ -2,7 +2,7 @@
 
 ghost use Rattle.std.specs.Prelude.{◌≡◌, ◌∷◌};
 ghost use Rattle.dc_cli.specs.Forms.{texts, is_name as name_test, seed_in, number_between};
-ghost use Rattle.dc_cli.specs.Commands.{ReadsAs, ReadsAsFile, ReadsAsKeygen, ReadsAsNames, ReadsAsFlag, ReadsAsMigrate, ReadsAsReplay, ReadsAsWorkers, ReadsAsCount};
+ghost use Rattle.dc_cli.specs.Commands.{ReadsAs, ReadsAsFile, ReadsAsKeygen, ReadsAsNames, ReadsAsFlag, ReadsAsMigrate, ReadsAsReplay, ReadsAsLogs, ReadsAsWorkers, ReadsAsCount};
 
 use dc_field::read_decimal;
 use dc_text::{Digits, decode_payload, payload_length};
@@ -36,6 +36,10 @@ pub enum Command<'a> {
         net: &'a str,
         workers: u32,
     },
+    /// Prints the logs of the run of the net that a manifest and its files make.
+    Logs {
+        net: &'a str,
+    },
 }
 
 /// The command that the words spell, or how many words from the front begin a valid command line, at most.
@@ -56,6 +60,7 @@ fn command_with<'a>(verb: &str, rest: &'a [String]) -> Result<Command<'a>, u32>
         "keygen" => keygen_of(rest),
         "migrate" => migrate_of(rest),
         "replay" => replay_of(rest),
+        "logs" => logs_of(rest),
         _ => Err(0),
     }
 }
@@ -139,6 +144,16 @@ fn replay_of(rest: &[String]) -> Result<Command<'_>, u32>
             }),
             Err(place) => Err(place),
         },
+        _ => Err(1),
+    }
+}
+
+fn logs_of(rest: &[String]) -> Result<Command<'_>, u32>
+    ensures { ReadsAsLogs (texts rest.now) result }
+{
+    match rest {
+        [net] if is_name(net.as_str()) => Ok(Command::Logs { net: net.as_str() }),
+        [net, _, ..] if is_name(net.as_str()) => Err(2),
         _ => Err(1),
     }
 }

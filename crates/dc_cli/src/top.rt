@@ -2,7 +2,7 @@
 
 ghost use Rattle.dc_cli.specs.Forms.{texts};
 ghost use Rattle.dc_cli.specs.Commands.{IsRunnable, task_of};
-ghost use Rattle.dc_cli.specs.Promises.{call, RefusesOtherWords, PrintsSums, Completes, AsksInOrder, TellsTheLast, KeepsFiles, PrintsOnlyWhenDone, MissesTheAbsent, RefusesTheLong, RefusesTheMalformed, TellsTheFault, HasCauses, WritesKeys, WritesSeeds, WritesPads, MakesFiles, PrintsView, RunsNets};
+ghost use Rattle.dc_cli.specs.Promises.{call, RefusesOtherWords, PrintsSums, Completes, AsksInOrder, TellsTheLast, KeepsFiles, PrintsOnlyWhenDone, MissesTheAbsent, RefusesTheLong, RefusesTheMalformed, TellsTheFault, HasCauses, WritesKeys, WritesSeeds, WritesPads, MakesFiles, PrintsView, PrintsLogs, RunsNets, RunsLogs};
 ghost use Rattle.dc_cli.specs.Ran.{Ran, CommandRan, PutsLine};
 
 use crate::command::{Command, command_of};
@@ -11,7 +11,7 @@ use crate::keygen::run_keygen;
 use crate::keygen_seeds::run_keygen_seeds;
 use crate::migrate::run_migrate;
 use crate::outcome::Outcome;
-use crate::replaying::run_replay;
+use crate::replaying::{Printed, run_net};
 use crate::summing::run_sum;
 use dc_edge::{Gate, Shelf, Sink};
 use std::alloc::Global;
@@ -65,7 +65,11 @@ pub fn dcnet<R: Threads + Sync, F: Shelf, K: Sink, E: Sink, G: Gate + Sync>(
         (call F.state K.state words.now shelf.old shelf.new out.old out.new result) }
     ensures view { PrintsView
         (call F.state K.state words.now shelf.old shelf.new out.old out.new result) }
+    ensures logs { PrintsLogs
+        (call F.state K.state words.now shelf.old shelf.new out.old out.new result) }
     ensures nets { RunsNets
+        (call F.state K.state words.now shelf.old shelf.new out.old out.new result) }
+    ensures log_nets { RunsLogs
         (call F.state K.state words.now shelf.old shelf.new out.old out.new result) }
 {
     let outcome = run(rt, alloc, words, shelf, out, gate);
@@ -111,7 +115,8 @@ fn run_command<R: Threads + Sync, F: Shelf, K: Sink, G: Gate + Sync>(
         }
         Command::Migrate { keys, target } => run_migrate(rt, alloc, keys, target, shelf),
         Command::Replay { net, workers } => {
-            run_replay(rt, alloc, net, workers, shelf, out, gate)
+            run_net(rt, alloc, net, workers, Printed::View, shelf, out, gate)
         }
+        Command::Logs { net } => run_net(rt, alloc, net, 1, Printed::Logs, shelf, out, gate),
     }
 }

@@ -28,7 +28,12 @@ all
 got 0 00000000000000000000000000000000000000000000000000000000000000000000000000000000
 ";
 
-/// Asserts how `replay` ends over a shelf that holds the manifest, a key file and a stream.
+/// The logs of that station.
+const LOGS: &[u8] = b"station 0
+pending 0 0
+";
+
+/// Asserts how `replay` or `logs` ends over a shelf that holds the manifest, a key file and a stream.
 fn check<R: Threads + Sync + AllocGlobal + Abort>(
     rt: &R,
     words: &[&str],
@@ -66,6 +71,12 @@ fn views(rt: HostRuntime) -> Result<(), Fail> {
         VIEW,
         b"",
     )?;
+    Ok(())
+}
+
+#[test]
+fn logs(rt: HostRuntime) -> Result<(), Fail> {
+    check(&rt, &["logs", "net.toml"], 1, 0, LOGS, b"")?;
     Ok(())
 }
 

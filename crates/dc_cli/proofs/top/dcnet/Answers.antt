@@ -1,4 +1,4 @@
-use Rattle.dc_cli.proofs.PromiseLemmas.{RefusesOtherWords-run, PrintsSums-run, Completes-run, AsksInOrder-run, KeepsFiles-run, PrintsOnlyWhenDone-run, MissesTheAbsent-run, RefusesTheLong-run, RefusesTheMalformed-run, TellsTheFault-run, TellsTheLast-run, HasCauses-run, WritesKeys-run, WritesSeeds-run, WritesPads-run, MakesFiles-run, PrintsView-run, RunsNets-run}
+use Rattle.dc_cli.proofs.PromiseLemmas.{RefusesOtherWords-run, PrintsSums-run, Completes-run, AsksInOrder-run, KeepsFiles-run, PrintsOnlyWhenDone-run, MissesTheAbsent-run, RefusesTheLong-run, RefusesTheMalformed-run, TellsTheFault-run, TellsTheLast-run, HasCauses-run, WritesKeys-run, WritesSeeds-run, WritesPads-run, MakesFiles-run, PrintsView-run, PrintsLogs-run, RunsNets-run, RunsLogs-run}
 use Rattle.dc_cli.proofs.top.dcnet.Goals as goal
 
 pub returns-clause-words : goal.returns-clause-words
@@ -54,3 +54,9 @@ returns-clause-view g c = PrintsView-run _ c.run-outcome.ensures
 
 pub returns-clause-nets : goal.returns-clause-nets
 returns-clause-nets g c = RunsNets-run _ c.run-outcome.ensures
+
+pub returns-clause-logs : goal.returns-clause-logs
+returns-clause-logs g c = PrintsLogs-run _ c.run-outcome.ensures
+
+pub returns-clause-log_nets : goal.returns-clause-log_nets
+returns-clause-log_nets g c = RunsLogs-run _ c.run-outcome.ensures
