@@ -5,6 +5,7 @@ mod bytes_of_word;
 mod group;
 mod items;
 mod limits;
+mod list_fault;
 mod number;
 mod refusal;
 mod sym;
@@ -25,6 +26,7 @@ pub use limits::{
     MOST_STATIONS, MOST_TERMS, MOST_WORDS, PERMUTATION_LIMIT, SCRIPT_LIMIT, STREAM_LIMIT,
     TRANSCRIPT_LIMIT, WANTED_WORDS_LIMIT, limits_are_those_of_specifications,
 };
+pub use list_fault::{ListFault, ListKind};
 pub use number::read_decimal;
 pub use refusal::{NoMemory, Refusal};
 pub use sym::Sym;
