@@ -1,6 +1,7 @@
 mod FirstLine
 mod NextLine
 pub mod LineByLine
+mod ListLines
 pub mod PayloadDigits
 mod ByTable
 mod Positions

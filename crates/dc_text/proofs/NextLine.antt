@@ -1,7 +1,7 @@
 -- The next line of what is left of a file.
 use Rattle.std.proofs.Common.{◌≡◌, ℕ, ◌+◌, List, ◌∷◌, length, drop, refl, sym, ◌∙◌, ap, subst, arith}
 use Rattle.std.proofs.lemmas.List.{length-drop}
-use Rattle.dc_formats.specs.TextFile.{Line, ended, file_lines}
+use Rattle.dc_formats.specs.TextFile.{ended, file_lines}
 use Rattle.dc_text.specs.Lines.{LinesLeft, IsFirstLine, IsNextLine}
 use Rattle.dc_text.proofs.LineByLine.{text_in-ended}
 
