@@ -10,13 +10,14 @@ use Rattle.std.proofs.lemmas.List.Elements.{All-nil, All-append, All-map, All-we
 use Rattle.dc_spec.proofs.TextLemmas.{symbol_from_digits}
 use Rattle.dc_spec.specs.Words.{IsWord, word_of}
 use Rattle.dc_spec.specs.Text.{hex_digit, symbol_text, word_text}
-use Rattle.dc_spec.proofs.WordLemmas.{word_from_symbols}
+use Rattle.dc_spec.proofs.WordLemmas.{word_from_symbols, length-word_of}
 use Rattle.dc_spec.proofs.ByteLemmas.{length_of_pieces}
 use Rattle.dc_field.specs.declared.word_from_text.WordFault.{WordFault}
 use Rattle.dc_field.specs.declared.word_from_text.WordFault.TheVariants.{Length}
 use Rattle.dc_field.specs.WordInBytes.{judged}
 use Rattle.dc_field.proofs.HexDigits.{digit_in-hex_digit, hex_digit-digit_in}
 use Rattle.dc_field.proofs.WordBytes.{none_above}
+use Rattle.dc_field.proofs.FirstAbove.{IsWord-from_position}
 use Rattle.dc_field.proofs.Positions.{fails_where_none, none_where_fails}
 use Rattle.dc_field.specs.WordInText.{digit_in, count_of, symbol_at, numbers_of, told_in_text, word_of_digits, word_of_text}
 
@@ -140,6 +141,24 @@ word_text-word_of_text text w e =
     let long = length_ok (eqb (length text) 80) text (position (λ c. is_none (digit_in c)) text) w e in
     let parts = digits_ok text (position (λ c. is_none (digit_in c)) text) w long.1 in
     sym (word_text-numbers_of text (eqb-true _ _ long.0) (each_counts text parts.0)) ∙ ap word_text parts.1
+
+-- no number was too great
+none_told : (numbers : List ℕ) (o : Option ℕ) (w : List ℕ) → told_in_text (judged numbers o) ≡ Ok w → o ≡ None
+none_told numbers None w e = refl
+none_told numbers (Some l) w e = absurd cc
+
+none_in_digits : (text : List ℕ) (o : Option ℕ) (w : List ℕ) → word_of_digits text o ≡ Ok w → position (λ x. ltb 65536 x) (numbers_of (map count_of text)) ≡ None
+none_in_digits text None w e = none_told (numbers_of (map count_of text)) (position (λ x. ltb 65536 x) (numbers_of (map count_of text))) w e
+none_in_digits text (Some place) w e = absurd cc
+
+-- what is read is a word
+pub IsWord-word_of_text : (text w : List ℕ) → word_of_text text ≡ Ok w → IsWord w
+IsWord-word_of_text text w e =
+    let o = position (λ c. is_none (digit_in c)) text in
+    let long = length_ok (eqb (length text) 80) text o w e in
+    let same = (digits_ok text o w long.1).1 in
+    IsWord-from_position w (ap length (sym same) ∙ length-word_of (λ l. symbol_at (map count_of text) (5 * l)))
+    (sym (ap (position (λ x. ltb 65536 x)) (sym same) ∙ none_in_digits text o w long.1))
 
 -- so it is for an answer
 pub is_found : (text : List ℕ) (r : Result (List ℕ) WordFault) → r ≡ word_of_text text → IfOk r (λ w. text ≡ word_text w)

@@ -1,4 +1,4 @@
-//! Tests of the crates of files and key graphs: text files, streams, scripts, graphs, key files.
+//! Tests of the crates of files and key graphs: text files, lists, streams, scripts, graphs, key files.
 #![tactic(auto)]
 
 #[cfg(test)]
@@ -7,6 +7,8 @@ mod answers;
 mod graph_tests;
 #[cfg(test)]
 mod key_file_tests;
+#[cfg(test)]
+mod list_tests;
 #[cfg(test)]
 mod script_tests;
 #[cfg(test)]
