@@ -43,6 +43,12 @@ READ_SCRIPTS = {
     "dc_script.specs.declared.fault.ScriptKind.TheVariants": "NotText Header Form Round TooMany Misplaced Order Missing Late "
     "Unordered Terms",
 }
+LIST_KINDS = {
+    "dc_text.specs.ListFiles": "list_fault=at_line",
+    "dc_field.specs.declared.list_fault.ListKind.TheVariants": "NotText TooMany Number Word",
+}
+READ_IMAGES = {"std.specs.Fmt": "digits", "dc_graph.specs.Images": "perm_from_bytes", **LIST_KINDS}
+READ_WANTED = {"dc_spec.specs.Words": "word_of", "dc_steer.specs.Wanted": "wanted_from_bytes", **LIST_KINDS}
 
 
 def big_endian(data, at, size):
@@ -122,10 +128,6 @@ CONTENTS = {
     "script": ("script_text", script_file),
     "perm": ("images_text", images),
     "wanted": ("wanted_text", wanted),
-}
-NOT_READ = {
-    "perm": "reading PERM is not defined yet",
-    "wanted": "reading WANTED is not defined yet",
 }
 MANIFEST = "the line has no content of a manifest"
 
@@ -217,7 +219,7 @@ def unchecked_file(case):
     name = case["format"]
     if name == "manifest":
         return MANIFEST if case["fault"] is None else None
-    return NOT_READ.get(name, None if name in CONTENTS else f"no format {name} here")
+    return None if name in CONTENTS else f"no format {name} here"
 
 
 # what of a line no kind here checks
@@ -243,6 +245,8 @@ KINDS = {
     "keys_read": Kind("files", READ_KEYS, OPENED_KEYS, read("keys", "keys_from_bytes", READ_KEYS), 100),
     "streams_read": Kind("files", READ_STREAMS, "digits stream_from_bytes", read("stream", "stream_from_bytes", READ_STREAMS), 100),
     "scripts_read": Kind("files", READ_SCRIPTS, "digits word_of script_from_bytes", read("script", "script_from_bytes", READ_SCRIPTS), 100),
+    "images_read": Kind("files", READ_IMAGES, "digits perm_from_bytes", read("perm", "perm_from_bytes", READ_IMAGES), 100),
+    "wanted_read": Kind("files", READ_WANTED, "word_of wanted_from_bytes", read("wanted", "wanted_from_bytes", READ_WANTED), 100),
     "scripts2": Kind("scripts2", {**READ_SCRIPTS, **WRITING}, "digits word_of script_from_bytes", scripts2, 50),
     "seeds": Kind("seeds", READ_SEEDS, OPENED_SEEDS, seeds, 50),
 }
