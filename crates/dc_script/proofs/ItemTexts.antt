@@ -20,7 +20,7 @@ use Rattle.dc_field.specs.declared.word_from_text.WordFault.{WordFault}
 use Rattle.dc_field.specs.declared.word_from_text.WordFault.TheVariants.{Length}
 use Rattle.dc_field.proofs.NumberText.{number_in-decimal, written_so}
 use Rattle.dc_field.proofs.FirstAbove.{IsWord-from_position}
-use Rattle.dc_field.proofs.WordText.{word_text-word_of_text, word_of_text-word_text, IsWord-word_of_text}
+use Rattle.dc_field.proofs.WordText.{word_text-word_of_text, word_of_text-word_text}
 use Rattle.dc_script.specs.declared.item.Item.{Item}
 use Rattle.dc_script.specs.declared.item.Item.TheVariants.{RoundLine, SayLine, AllLine, ToLine, AddLine}
 use Rattle.dc_script.specs.Items.{station_with_word, entry_in, term_in, item_in, item_text, IsEntry, IsItem}
@@ -64,6 +64,31 @@ not_chosen : {X : Type 0} (b : Bool) (o : Option X) (x : X) → cond b None o �
 not_chosen true o x e = absurd cc
 not_chosen false o x e = (refl, e)
 
+-- the numbers that were judged are the word, and none of them is too great
+judged_ok : (numbers w : List ℕ) (o : Option ℕ) → judged numbers o ≡ Ok w → (o ≡ None) × (numbers ≡ w)
+judged_ok numbers w None e = (refl, cc)
+judged_ok numbers w (Some l) e = absurd cc
+
+told_ok : (r : Result (List ℕ) SymFault) (w : List ℕ) → told_in_text r ≡ Ok w → r ≡ Ok w
+told_ok (Ok v) w e = cc
+told_ok (Err fault) w e = absurd cc
+
+digits_ok : (text w : List ℕ) (o : Option ℕ) → word_of_digits text o ≡ Ok w → word_of_numbers (numbers_of (map count_of text)) ≡ Ok w
+digits_ok text w None e = told_ok _ w e
+digits_ok text w (Some place) e = absurd cc
+
+chosen_ok : {X F : Type 0} (b : Bool) (r : Result X F) (f : F) (x : X) → cond b r (Err f) ≡ Ok x → r ≡ Ok x
+chosen_ok true r f x e = e
+chosen_ok false r f x e = absurd cc
+
+-- what is read is a word
+word_is_word : (text w : List ℕ) → word_of_text text ≡ Ok w → IsWord w
+word_is_word text w e =
+    let read = digits_ok text w (position (λ c. is_none (digit_in c)) text)
+    (chosen_ok (length text == 80) (word_of_digits text (position (λ c. is_none (digit_in c)) text)) (Length (length text)) w e) in
+    let judged = judged_ok (numbers_of (map count_of text)) w (position (λ x. nat_lt 65536 x) (numbers_of (map count_of text))) read in
+    IsWord-from_position w (ap length (sym judged.1) ∙ length-word_of (λ l. symbol_at (map count_of text) (5 * l))) (sym (ap (position (λ x. nat_lt 65536 x)) (sym judged.1) ∙ judged.0))
+
 -- the parts of an entry
 parts_found : (number word : List ℕ) (n : Option ℕ) (r : Result (List ℕ) WordFault) (e : ℕ × List ℕ) → number_in number ≡ n → word_of_text word ≡ r
     → station_with_word n r ≡ Some e → (number ≡ decimal e.0) × (word ≡ word_text e.1) × IsEntry e
@@ -74,7 +99,7 @@ parts_found number word (Some i) (Ok w) e m s h =
     let pair : (i, w) ≡ e = cc in
     let first : i ≡ e.0 = ap (λ (d : ℕ × List ℕ). d.0) pair in
     let second : w ≡ e.1 = ap (λ (d : ℕ × List ℕ). d.1) pair in
-    ((written_so number i m).1 ∙ ap decimal first, word_text-word_of_text word w s ∙ ap word_text second, (omega (arith, ltb-false _ _ small.0, first), subst IsWord second (IsWord-word_of_text word w s)))
+    ((written_so number i m).1 ∙ ap decimal first, word_text-word_of_text word w s ∙ ap word_text second, (omega (arith, ltb-false _ _ small.0, first), subst IsWord second (word_is_word word w s)))
 
 -- an entry that is read is written so
 entry_found : (text : List ℕ) (e : ℕ × List ℕ) → entry_in text ≡ Some e → (text ≡ (decimal e.0 ++ codes " ") ++ word_text e.1) × IsEntry e
