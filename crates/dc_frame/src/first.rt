@@ -41,10 +41,10 @@ pub(crate) fn missing(b: &[u8]) -> usize
     requires { IsOneFrame (length b.now) (first b.now) }
     ensures { result ≡ missing_of b.now }
 {
-    if b.len() < 3 {
-        return 3 - b.len();
+    if 3 <= b.len() {
+        return 3 + usize::from(body_length(b[0]).unwrap_or(0)) - b.len();
     }
-    3 + usize::from(body_length(b[0]).unwrap_or(0)) - b.len()
+    3 - b.len()
 }
 
 /// How long the body of a frame with this tag is.

@@ -14,6 +14,7 @@ use std::marker::Model;
 
 /// Takes bytes in pieces and gives the frames that they hold, one by one. It keeps the bytes of the
 /// frame in progress and takes no memory.
+#[derive(Drop)]
 pub struct Reader {
     /// The offset of the frame in progress in all bytes that were fed; the greatest `u64` where it is above that.
     pub start: u64,

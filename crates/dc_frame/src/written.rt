@@ -10,6 +10,7 @@ use dc_field::{Word, word_bytes};
 use std::marker::Model;
 
 /// The bytes of one frame, 9 or 69; contracts see them as a list.
+#[derive(Drop)]
 pub struct FrameBytes {
     bytes: ArrayVec<u8, 69>,
 }
