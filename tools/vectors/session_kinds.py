@@ -9,6 +9,11 @@ FRAMES = {
     "dc_spec.specs.Frames": "hello send all",
     "dc_formats.specs.Frames": "frames_bytes",
 }
+READ_FRAMES = {
+    **FRAMES,
+    "dc_frame.specs.Reading": "first reading_from reading needed",
+    "dc_frame.specs.declared.fault.FrameKind.TheVariants": "Tag Length Symbol",
+}
 STATIONS = {
     **FRAMES,
     "std.specs.Fmt": "digits",
@@ -25,6 +30,7 @@ HUBS = {
 }
 MOST_AT_ONCE = 20  # the words of a longer session are computed one by one, since one lemma would take too much memory
 HEADERS = {1: (6, "hello"), 2: (66, "send"), 3: (66, "all")}
+HEADERS_BY_NAME = ["hello", "send", "all"]
 
 
 def frames_of(data):
@@ -53,13 +59,53 @@ def frame(kind, item):
     return f"{kind} {item[0]} {word(item[1])}"
 
 
+def items(case):
+    """The frames of a line, as (kind, item) with the number of bytes fed when each came."""
+    return [(kind, one[kind], one["fed"]) for one in case["frames"] for kind in HEADERS_BY_NAME if kind in one]
+
+
 def frames(case):
     """The frames that the bytes begin with, written."""
-    read = [(kind, one[kind]) for one in case["frames"] for kind in ["hello", "send", "all"] if kind in one]
+    read = [(kind, item) for kind, item, _ in items(case)]
     if not read:
         return None
     size = sum(9 if kind == "hello" else 69 for kind, _ in read)
     return [f"frames_bytes {listing([frame(kind, item) for kind, item in read])} ≡ {byte_list(case['bytes'][: 2 * size])}"]
+
+
+def frame_fault(printed):
+    """A fault as it is printed (`at=69 tag seen=9`) as a term."""
+    at, kind, seen = printed.split(" ")
+    return f"(Err {record(at=at[3:], kind=f'{kind.capitalize()} {seen[5:]}')})"
+
+
+def reading_claim(read, fed, ends):
+    """That these are the frames of these bytes, and that the bytes end so."""
+    listed = listing([frame(kind, item) for kind, item, _ in read])
+    return f"reading {byte_list(fed.hex())} ≡ {record(frames=listed, ends=ends)}"
+
+
+def frames_read(case):
+    """What is read of the bytes after each piece that was fed; and how many bytes are needed in the end."""
+    data, read, claims = bytes.fromhex(case["bytes"]), items(case), []
+    if sum(case["cuts"]) != case["fed"]:
+        raise ValueError("the pieces are not the bytes fed")
+    places = [sum(case["cuts"][: count]) for count in range(len(case["cuts"]) + 1)]
+    if any(fed not in places for _, _, fed in read):
+        raise ValueError("a frame came within a piece")
+    whole = sum(9 if kind == "hello" else 69 for kind, _, _ in read)
+    for place in places[-1:] if case["fault"] is None else places[-2:]:
+        there = [one for one in read if one[2] <= place]
+        faulty = case["fault"] is not None and place == case["fed"]
+        ends = frame_fault(case["fault"]) if faulty else f"Ok {byte_list(data[whole:place].hex())}"
+        claims.append(reading_claim(there, data[:place], ends))
+    for count, (_, _, fed) in enumerate(read):
+        before = places[places.index(fed) - 1]
+        claims.append(f"needed {byte_list(data[:before].hex())} {count} ≡ {fed - before}")
+        claims.append(f"needed {byte_list(data[:fed].hex())} {count} ≡ 0")
+    if case["fault"] is None:
+        claims.append(f"needed {byte_list(data[: case['fed']].hex())} {len(read)} ≡ {case['need']}")
+    return claims
 
 
 def words_in_order(data, kind):
@@ -158,13 +204,13 @@ def unchecked_station(case):
 
 # what of a line no kind here checks
 UNCHECKED = {
-    "frames": lambda case: "reading frames is not defined yet",
     "station_sessions": unchecked_station,
     "hub_sessions": lambda case: "how a session is refused is not defined yet" if case["status"] else None,
 }
 
 KINDS = {
-    "frames": Kind("frames", FRAMES, "word_of", frames, 50),
+    "frames_written": Kind("frames", FRAMES, "word_of", frames, 50),
+    "frames_read": Kind("frames", READ_FRAMES, "word_of first reading_from", frames_read, 10),
     "station_sessions": Kind("station_sessions", STATIONS, "computing digits", station_sessions, 10),
     "hub_sessions": Kind("hub_sessions", HUBS, "word_of", hub_sessions, 10),
 }
