@@ -49,8 +49,24 @@ fn bytes_go_both_ways(rt: HostRuntime) -> Result<(), Fail> {
 #[test]
 fn what_is_not_there_fails(rt: HostRuntime) {
     let mut wire = TcpWire::new(rt, rt.alloc());
-    assert_eq!(rt; wire.accept(rt.alloc()), Err(LinkFault::Failed), "it does not listen");
-    assert_eq!(rt; wire.dial(rt.alloc(), "127.0.0.1:1"), Err(LinkFault::Failed), "refused");
-    assert_eq!(rt; wire.dial(rt.alloc(), "127.0.0.1"), Err(LinkFault::Failed), "no port");
-    assert_eq!(rt; wire.listen(rt.alloc(), "[::1:0"), Err(LinkFault::Failed), "no address");
+    assert_eq!(rt;
+        wire.accept(rt.alloc()),
+        Err(LinkFault::Failed),
+        "it does not listen"
+    );
+    assert_eq!(rt;
+        wire.dial(rt.alloc(), "127.0.0.1:1"),
+        Err(LinkFault::Failed),
+        "refused"
+    );
+    assert_eq!(rt;
+        wire.dial(rt.alloc(), "127.0.0.1"),
+        Err(LinkFault::Failed),
+        "no port"
+    );
+    assert_eq!(rt;
+        wire.listen(rt.alloc(), "[::1:0"),
+        Err(LinkFault::Failed),
+        "no address"
+    );
 }
