@@ -1,5 +1,6 @@
 -- What a call does to the book of a wire in memory is what the trait's relations say.
-use Rattle.std.proofs.Common.{◌≡◌, ◌≢◌, ◌≤◌, ◌<◌, ◌+◌, ◌-◌, min, ℕ, zero, suc, Bool, ◌||◌, not, nat_lt, true, false, if◌then◌else◌, List, [], ◌∷◌, ◌++◌, length, take, drop, get_or, set, Some, Result, Ok, Err, refl, sym, ap, subst, ◌∙◌, arith}
+use Rattle.std.proofs.Common.{◌≡◌, ◌≢◌, ◌≤◌, ◌<◌, ◌+◌, ◌-◌, min, ℕ, zero, suc, Bool, ◌||◌, not, nat_lt, true, false, if◌then◌else◌}
+use Rattle.std.proofs.Common.{List, [], ◌∷◌, ◌++◌, length, take, drop, get_or, set, Some, Result, Ok, Err, refl, sym, ap, subst, ◌∙◌, arith}
 use Rattle.std.proofs.lemmas.List.{get_or-set_other, get_or-set_same}
 use Rattle.std.proofs.lemmas.Grind.{common_steps}
 use Rattle.dc_edge.specs.declared.fault.Failed.{Failed}
@@ -8,7 +9,7 @@ use Rattle.dc_edge.specs.declared.fault.LinkFault.TheVariants as links
 use Rattle.dc_edge.specs.Wire.{Dials, Listens, Receives, Sends}
 use Rattle.dc_edge.specs.CallBook.{is_failing}
 use Rattle.dc_edge.proofs.PutLemmas.{grown-nothing}
-use Rattle.dc_edge.specs.WireBook.{WireBook, PeerBook, no_peer, peer_at, wire_state, book_asked, book_called, book_failed, book_with, taken_from, told_to, given_by, filled, meet_of}
+use Rattle.dc_edge.specs.WireBook.{WireBook, PeerBook, no_peer, peer_at, wire_state, book_asked, book_called, book_failed, book_with, taken_from, with_sent, given_by, filled, meet_of}
 
 -- the book and the answer of a call that hands out a peer or fails
 abbrev met : Bool → WireBook → List ℕ → WireBook × Result ℕ LinkFault
@@ -21,7 +22,9 @@ met-dials true address book counted unsent = record { left = refl; sent = refl; 
 met-dials false address book counted unsent = record { left = refl; sent = refl; asked = refl; counted = counted; answer = (refl, refl, unsent) }
 
 meet_of-met : (b : Bool) (book : WireBook) (address : List ℕ)
-    → ◌≡◌ {A = WireBook × Result ℕ LinkFault} (if b then (book_failed (book_asked book address), Err links.Failed) else (record (book_called (book_asked book address)) { peers = book.peers + 1 }, Ok book.peers)) (met b book address)
+    → ◌≡◌ {A = WireBook × Result ℕ LinkFault}
+    (if b then (book_failed (book_asked book address), Err links.Failed) else (record (book_called (book_asked book address)) { peers = book.peers + 1 }, Ok book.peers))
+    (met b book address)
 meet_of-met true book address = refl
 meet_of-met false book address = refl
 
@@ -105,18 +108,18 @@ Sends-failed n bytes book now f more counted e =
 
 -- a send of what fits
 pub Sends-part : (n : ℕ) (bytes : List ℕ) (book now : WireBook) (f : Failed) → bytes ≢ [] → n < length book.fed → book.calls.faults ≤ now.calls.faults
-    → now ≡ book_with (book_failed book) n (told_to (peer_at book n) bytes) → Sends n bytes (wire_state book) (wire_state now) (Err f)
+    → now ≡ book_with (book_failed book) n (with_sent (peer_at book n) bytes) → Sends n bytes (wire_state book) (wire_state now) (Err f)
 Sends-part n bytes book now f more within counted e =
     let peer : PeerBook = peer_at book n in
-    let after : WireBook = book_with (book_failed book) n (told_to peer bytes) in
-    let same : peer_at after n ≡ told_to peer bytes = get_or-set_same book.fed n (told_to peer bytes) no_peer within in
+    let after : WireBook = book_with (book_failed book) n (with_sent peer bytes) in
+    let same : peer_at after n ≡ with_sent peer bytes = get_or-set_same book.fed n (with_sent peer bytes) no_peer within in
     let fitting : ℕ = peer.room - length peer.sent in
     let counted' : book.calls.faults ≤ after.calls.faults = subst (λ (n' : WireBook). book.calls.faults ≤ n'.calls.faults) e counted in
     subst (λ (n' : WireBook). Sends n bytes (wire_state book) (wire_state n') (Err f)) (sym e)
     (record {
       peers = refl;
-      left = λ i k. Some (stays (λ p. p.left) (λ p. told_to p bytes) (λ p. refl) book.fed n k i);
-      others = λ other ne. ap (λ (p : PeerBook). Some p.sent) (get_or-set_other book.fed n other (told_to peer bytes) no_peer ne);
+      left = λ i k. Some (stays (λ p. p.left) (λ p. with_sent p bytes) (λ p. refl) book.fed n k i);
+      others = λ other ne. ap (λ (p : PeerBook). Some p.sent) (get_or-set_other book.fed n other (with_sent peer bytes) no_peer ne);
       asked = refl;
       counted = counted';
       answer = ((take fitting bytes, (drop fitting bytes, grind (arith, common_steps)), ap (λ (p : PeerBook). Some p.sent) same), omega arith);

@@ -7,9 +7,9 @@ use Rattle.dc_edge.specs.declared.fault.LinkFault.TheVariants as links
 
 -- the address is put at the end of the addresses asked for, unless memory ran out
 abbrev pub asked_after : {A : Type 0} → Result A LinkFault → List ℕ → Option (List (List ℕ)) → Option (List (List ℕ))
-asked_after (Ok _) address told = grown told (address ∷ [])
-asked_after (Err links.Failed) address told = grown told (address ∷ [])
-asked_after (Err links.NoMemory) address told = told
+asked_after (Ok _) address known = grown known (address ∷ [])
+asked_after (Err links.Failed) address known = grown known (address ∷ [])
+asked_after (Err links.NoMemory) address known = known
 
 -- when each answer of a call that brings a peer comes: the peer gets the next number and was sent nothing so far, or the count rose, or nothing changed
 abbrev pub PeerAnswer : WireState → WireState → Result ℕ LinkFault → Type 0
@@ -69,13 +69,13 @@ pub record Receives (peer : ℕ) (buffer : List ℕ) (before after : WireState) 
   pub answer : ReceiveAnswer peer buffer before after result
 
 -- this and no more was sent to the peer
-abbrev pub Told : ℕ → List ℕ → WireState → WireState → Type 0
-Told peer bytes before after = after.sent peer ≡ grown (before.sent peer) bytes
+abbrev pub SentTo : ℕ → List ℕ → WireState → WireState → Type 0
+SentTo peer bytes before after = after.sent peer ≡ grown (before.sent peer) bytes
 
 -- all was sent, or a front and the count rose
 abbrev pub SendAnswer : ℕ → List ℕ → WireState → WireState → Result Unit Failed → Type 0
-SendAnswer peer bytes before after (Ok _) = Told peer bytes before after
-SendAnswer peer bytes before after (Err _) = ((front : List ℕ) × IsFront front bytes × Told peer front before after) × Rose before.faults after.faults
+SendAnswer peer bytes before after (Ok _) = SentTo peer bytes before after
+SendAnswer peer bytes before after (Err _) = ((front : List ℕ) × IsFront front bytes × SentTo peer front before after) × Rose before.faults after.faults
 
 -- a send of a piece to a peer: all else stays, the count never falls, and an empty piece is taken and changes nothing
 pub record Sends (peer : ℕ) (bytes : List ℕ) (before after : WireState) (result : Result Unit Failed) : Type 0 where

@@ -1,5 +1,6 @@
 -- What a wire in memory keeps, and what each call does to it.
-use Rattle.std.specs.Prelude.{ℕ, ◌+◌, ◌-◌, ◌≤◌, ◌<◌, ◌^◌, ◌≡◌, ◌||◌, min, not, Bool, true, false, if◌then◌else◌, nat_lt, nat_le, List, [], ◌∷◌, ◌++◌, length, take, drop, slice_index_or, slice_set, Option, Some, None, Result, Ok, Err}
+use Rattle.std.specs.Prelude.{ℕ, ◌+◌, ◌-◌, ◌≤◌, ◌<◌, ◌^◌, ◌≡◌, ◌||◌, min, not, Bool, true, false, if◌then◌else◌, nat_lt, nat_le}
+use Rattle.std.specs.Prelude.{List, [], ◌∷◌, ◌++◌, length, take, drop, slice_index_or, slice_set, Option, Some, None, Result, Ok, Err}
 use Rattle.dc_spec.specs.Outside.{WireState}
 use Rattle.dc_edge.specs.CallBook.{CallBook, is_failing, more_faults, more_calls}
 use Rattle.dc_edge.specs.declared.fault.LinkFault.{LinkFault}
@@ -15,7 +16,8 @@ pub record PeerBook : Type 0 where
 abbrev pub no_peer : PeerBook
 no_peer = record { left = []; sent = []; room = 0 }
 
--- the peers that were fed, how many of them were handed out, the addresses asked for, how many bytes one receive gives at most, the room of a peer that is fed, the choices of ready that were not used up, the calls
+-- the peers that were fed, how many of them were handed out, the addresses asked for, how many bytes one receive gives at most,
+-- the room of a peer that is fed, the choices of ready that were not used up, the calls
 pub record WireBook : Type 0 where
   pub fed : List PeerBook
   pub peers : ℕ
@@ -45,6 +47,18 @@ pub record IsWire (fed : List PeerBook) (peers step : ℕ) : Type 0 where
   pub numbered : length fed < 2 ^ 32
   pub unsent : (n : ℕ) → peers ≤ n → (slice_index_or fed n no_peer).sent ≡ []
   pub steps : 1 ≤ step
+
+-- no peer was fed, and there was no call
+abbrev pub new_book : ℕ → ℕ → List ℕ → List ℕ → WireBook
+new_book room step order fails = record {
+  fed = [];
+  peers = 0;
+  asked = [];
+  step = step;
+  room = room;
+  order = order;
+  calls = record { fails = fails; calls = 0; faults = 0 };
+}
 
 -- one more peer is fed with these bytes
 abbrev pub book_feeding : WireBook → List ℕ → WireBook
@@ -120,15 +134,15 @@ recv_of book n buffer =
     (book_with (book_called book) n (taken_from (peer_at book n) count), filled (peer_at book n) count buffer, Some count))
 
 -- a peer that was sent as much of the bytes as fits
-abbrev pub told_to : PeerBook → List ℕ → PeerBook
-told_to peer bytes = record { left = peer.left; sent = peer.sent ++ take (peer.room - length peer.sent) bytes; room = peer.room }
+abbrev pub with_sent : PeerBook → List ℕ → PeerBook
+with_sent peer bytes = record { left = peer.left; sent = peer.sent ++ take (peer.room - length peer.sent) bytes; room = peer.room }
 
 -- the book after a send of a piece that is not empty, and whether it succeeded: past the room what fits is sent
 abbrev pub send_piece : WireBook → ℕ → List ℕ → WireBook × Bool
 send_piece book n bytes =
     if is_failing book.calls then (book_failed book, false)
-    else (if nat_le (length (peer_at book n).sent + length bytes) (peer_at book n).room then (book_with (book_called book) n (told_to (peer_at book n) bytes), true)
-    else (book_with (book_failed book) n (told_to (peer_at book n) bytes), false))
+    else (if nat_le (length (peer_at book n).sent + length bytes) (peer_at book n).room then (book_with (book_called book) n (with_sent (peer_at book n) bytes), true)
+    else (book_with (book_failed book) n (with_sent (peer_at book n) bytes), false))
 
 -- the book after a send, and whether it succeeded: an empty piece is no call
 abbrev pub send_of : WireBook → ℕ → List ℕ → WireBook × Bool

@@ -1,7 +1,7 @@
 //! A peer of a wire in memory.
 
 ghost use Rattle.std.specs.Prelude.{◌≡◌, ◌+◌, ◌-◌, ◌^◌, [], min, length, nat_le, IfOk, vec_len, vec_capacity};
-ghost use Rattle.dc_edge.specs.WireBook.{taken_from, given_by, filled, told_to};
+ghost use Rattle.dc_edge.specs.WireBook.{taken_from, given_by, filled, with_sent};
 
 use crate::memory_sink::append;
 use dc_field::NoMemory;
@@ -59,7 +59,7 @@ impl FedPeer {
     /// Takes as many of the bytes as there is room for, and answers whether these were all.
     pub(crate) fn take(&mut self, bytes: &[u8]) -> bool
         ensures answer { result ≡ nat_le (length self.old.sent + length bytes.now) self.old.room }
-        ensures after { self.new ≡ told_to self.old bytes.now }
+        ensures after { self.new ≡ with_sent self.old bytes.now }
     {
         let fitting = bytes.len().min(self.room - self.sent.len());
         append(&mut self.sent, &bytes[..fitting]);

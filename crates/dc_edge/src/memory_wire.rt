@@ -3,7 +3,8 @@
 ghost use Rattle.std.specs.Prelude.{◌≡◌, ◌≤◌, ◌<◌, [], length, is_ok, if◌then◌else◌, IfOk, OnErr, OnOk};
 ghost use Rattle.dc_edge.specs.CallBook.{is_failing};
 ghost use Rattle.std.specs.Result.{result_ok};
-ghost use Rattle.dc_edge.specs.WireBook.{wire_state, peer_at, book_feeding, book_asked, book_called, book_failed, meet_of, ready_of, recv_of, send_of, DialsBook, ListensBook};
+ghost use Rattle.dc_edge.specs.WireBook.{wire_state, peer_at, new_book, book_feeding, book_asked, book_called, book_failed};
+ghost use Rattle.dc_edge.specs.WireBook.{meet_of, ready_of, recv_of, send_of, DialsBook, ListensBook};
 ghost use Rattle.dc_edge.specs.Wire.{Dials, Listens, Accepts, Readies, Receives, Sends};
 
 use crate::calls::Calls;
@@ -36,7 +37,15 @@ impl Model for MemoryWire {
 
     ghost Value = { WireBook };
 
-    ghost view = { λ w. record { fed = w.fed.items; peers = w.met; asked = w.addresses.items; step = w.most; room = w.space; order = drop w.turn w.choices.items; calls = w.numbered } };
+    ghost view = { λ w. record {
+      fed = w.fed.items;
+      peers = w.met;
+      asked = w.addresses.items;
+      step = w.most;
+      room = w.space;
+      order = drop w.turn w.choices.items;
+      calls = w.numbered;
+    } };
 
     ghost invariant = { λ w. IsWire w.fed.items w.met w.most × (w.turn ≤ vec_len w.choices) };
 }
@@ -54,7 +63,7 @@ impl MemoryWire {
         fails: &[u32],
     ) -> Result<MemoryWire, NoMemory>
         requires { 1 ≤ step }
-        ensures { IfOk result (λ w. w ≡ record { fed = []; peers = 0; asked = []; step = step; room = room; order = order.now; calls = record { fails = fails.now; calls = 0; faults = 0 } }) }
+        ensures { IfOk result (λ w. w ≡ new_book room step order.now fails.now) }
     {
         let choices = Vec::from_slice(alloc, order)?;
         let numbered = Calls::new(alloc, fails)?;

@@ -7,7 +7,8 @@ use Rattle.dc_edge.proofs.WireLemmas.{Sends-failed, Sends-part}
 use Rattle.dc_edge.proofs.memory_wire.MemoryWireWire.send.Goals as goal
 
 pub returns-then-fails-clause-sends : goal.returns-then-fails-clause-sends
-returns-then-fails-clause-sends c = Sends-failed c.args.peer c.args.bytes.now c.args.self.now c.fails.new.self _ (grind (arith, common_steps)) (grind (arith, common_steps)) (grind (arith, common_steps))
+returns-then-fails-clause-sends c =
+    Sends-failed c.args.peer c.args.bytes.now c.args.self.now c.fails.new.self _ (grind (arith, common_steps)) (grind (arith, common_steps)) (grind (arith, common_steps))
 
 pub returns-clause-sends : goal.returns-clause-sends
 returns-clause-sends c =
