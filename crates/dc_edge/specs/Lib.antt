@@ -2,5 +2,8 @@ pub mod Shelf
 pub mod ShelfBook
 pub mod Sink
 pub mod SinkBook
+pub mod Wire
+pub mod CallBook
+pub mod WireBook
 pub mod Untold
 pub mod Opened

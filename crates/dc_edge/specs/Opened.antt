@@ -6,6 +6,8 @@ use Rattle.dc_edge.specs.declared.fault.ShelfFault.{ShelfFault}
 use Rattle.dc_edge.specs.declared.fault.ShelfFault.TheVariants.{Missing, TooLong, Failed, NoMemory}
 use Rattle.dc_edge.specs.declared.fault.WriteFault.{WriteFault}
 use Rattle.dc_edge.specs.declared.fault.WriteFault.TheVariants as writes
+use Rattle.dc_edge.specs.declared.fault.LinkFault.{LinkFault}
+use Rattle.dc_edge.specs.declared.fault.LinkFault.TheVariants as links
 
 -- the fault that an error of an opened file is
 abbrev pub fault_of_kind : ErrorKind → ShelfFault
@@ -21,6 +23,11 @@ opening_fault kind = fault_of_kind kind
 abbrev pub write_fault_of_kind : ErrorKind → WriteFault
 write_fault_of_kind kinds.OutOfMemory = writes.NoMemory
 write_fault_of_kind _ = writes.Failed
+
+-- the fault that an error of a connection is
+abbrev pub link_fault_of_kind : ErrorKind → LinkFault
+link_fault_of_kind kinds.OutOfMemory = links.NoMemory
+link_fault_of_kind _ = links.Failed
 
 -- all bytes that were left, or that they are more than the limit; a read may also fail
 abbrev pub GivesRest : List ℕ → ℕ → Result (List ℕ) ShelfFault → Type 0

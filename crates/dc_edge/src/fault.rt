@@ -3,7 +3,9 @@
 ghost use Rattle.std.specs.Prelude.{◌≡◌};
 ghost use Rattle.dc_edge.specs.declared.fault.ShelfFault.TheVariants.{NoMemory as no_memory};
 ghost use Rattle.dc_edge.specs.declared.fault.WriteFault.TheVariants.{NoMemory as write_no_memory};
+ghost use Rattle.dc_edge.specs.declared.fault.LinkFault.TheVariants.{NoMemory as link_no_memory};
 
+use dc_field::NoMemory;
 use std::alloc::{AllocError, AllocFailed};
 use thiserror::Error;
 
@@ -68,5 +70,40 @@ impl<T: Drop> From<AllocFailed<T>> for WriteFault {
 
     fn from(_e: AllocFailed<T>) -> WriteFault {
         WriteFault::NoMemory
+    }
+}
+
+/// Why a wire has no new peer, or does not listen.
+#[derive(Clone, Copy, Debug, PartialEq, Eq, Error)]
+pub enum LinkFault {
+    /// The wire failed.
+    #[error("wire fault")]
+    Failed,
+    /// Memory ran out, and nothing was asked.
+    #[error("no memory")]
+    NoMemory,
+}
+
+impl From<AllocError> for LinkFault {
+    ghost from_gives = { λ _ e. e ≡ link_no_memory };
+
+    fn from(_e: AllocError) -> LinkFault {
+        LinkFault::NoMemory
+    }
+}
+
+impl<T: Drop> From<AllocFailed<T>> for LinkFault {
+    ghost from_gives = { λ _ e. e ≡ link_no_memory };
+
+    fn from(_e: AllocFailed<T>) -> LinkFault {
+        LinkFault::NoMemory
+    }
+}
+
+impl From<NoMemory> for LinkFault {
+    ghost from_gives = { λ _ e. e ≡ link_no_memory };
+
+    fn from(_e: NoMemory) -> LinkFault {
+        LinkFault::NoMemory
     }
 }

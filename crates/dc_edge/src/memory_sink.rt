@@ -83,8 +83,8 @@ impl Sink for MemorySink {
     }
 }
 
-// Appends within the room that was taken.
-fn append(held: &mut Vec<u8>, bytes: &[u8])
+/// Appends within the room that was taken.
+pub(crate) fn append(held: &mut Vec<u8>, bytes: &[u8])
     requires { vec_len held.old + length bytes.now ≤ vec_capacity held.old }
     ensures items { held.new.items ≡ held.old.items ++ bytes.now }
     ensures len { vec_len held.new ≡ vec_len held.old + length bytes.now }
