@@ -13,20 +13,20 @@ use Rattle.dc_hub_rules.specs.Hubs.{Arrival, no_station, over, old, ahead, first
 use Rattle.dc_spec.proofs.Booleans.{or_cases, or_first, or_second}
 
 -- the parts of a Some are equal
-same_some : {X : Type 0} (x y : X) → Some x ≡ Some y → x ≡ y
+pub same_some : {X : Type 0} (x y : X) → Some x ≡ Some y → x ≡ y
 same_some x y h = cc
 
 -- nothing is not something
-none_some : {X : Type 0} (x : X) (o : Option X) → o ≡ Some x → o ≡ None → ⊥
+pub none_some : {X : Type 0} (x : X) (o : Option X) → o ≡ Some x → o ≡ None → ⊥
 none_some x o is none = let clash : ⊥ = cc in clash
 
 -- there is nothing, or there is something
-none_or_some : {X : Type 0} (o : Option X) → (o ≡ None) ⊎ ((x : X) × (o ≡ Some x))
+pub none_or_some : {X : Type 0} (o : Option X) → (o ≡ None) ⊎ ((x : X) × (o ≡ Some x))
 none_or_some None = inl refl
 none_or_some (Some x) = inr (x, refl)
 
 -- what a search from a place finds stands there and passes
-position_stands : {X : Type 0} (p : X → Bool) (s : ℕ) (xs : List X) (k : ℕ) → position_from p s xs ≡ Some k → (i : ℕ) × (x : X) × (k ≡ s + i) × (slice_get xs i ≡ Some x) × (p x ≡ true)
+pub position_stands : {X : Type 0} (p : X → Bool) (s : ℕ) (xs : List X) (k : ℕ) → position_from p s xs ≡ Some k → (i : ℕ) × (x : X) × (k ≡ s + i) × (slice_get xs i ≡ Some x) × (p x ≡ true)
 position_stands p s [] k h = absurd (none_some k _ h refl)
 position_stands p s (x ∷ xs) k h = (elim (p x) as (λ b. p x ≡ b → cond b (Some s) (position_from p (s + 1) xs) ≡ Some k → (i : ℕ) × (y : _) × (k ≡ s + i) × (slice_get (x ∷ xs) i ≡ Some y)
     × (p y ≡ true)) [
@@ -35,7 +35,7 @@ position_stands p s (x ∷ xs) k h = (elim (p x) as (λ b. p x ≡ b → cond b 
     ]) refl h
 
 -- where an item passes, the search finds one
-position_found : {X : Type 0} (p : X → Bool) (s : ℕ) (xs : List X) (i : ℕ) (x : X) → slice_get xs i ≡ Some x → p x ≡ true → (k : ℕ) × (position_from p s xs ≡ Some k)
+pub position_found : {X : Type 0} (p : X → Bool) (s : ℕ) (xs : List X) (i : ℕ) (x : X) → slice_get xs i ≡ Some x → p x ≡ true → (k : ℕ) × (position_from p s xs ≡ Some k)
 position_found p s [] i x at passes = absurd (none_some x _ at refl)
 position_found p s (y ∷ ys) zero x at passes = (s, ap (λ b. cond b (Some s) (position_from p (s + 1) ys)) (subst (λ z. p z ≡ true) (sym (same_some y x at)) passes))
 position_found p s (y ∷ ys) (suc i) x at passes = (elim (p y) as (λ b. (k : ℕ) × (cond b (Some s) (position_from p (s + 1) ys) ≡ Some k)) [
@@ -59,7 +59,7 @@ slice_get-drop (x ∷ xs) (suc s) i zero e = absurd (omega arith)
 slice_get-drop (x ∷ xs) (suc s) i (suc j) e = slice_get-drop xs s i j (omega arith)
 
 -- an item of a list with one more at its end is one of the list or the last
-slice_get-push : {X : Type 0} (xs : List X) (a : X) (i : ℕ) (x : X) → slice_get (xs ++ a ∷ []) i ≡ Some x → (slice_get xs i ≡ Some x) ⊎ ((i ≡ length xs) × (a ≡ x))
+pub slice_get-push : {X : Type 0} (xs : List X) (a : X) (i : ℕ) (x : X) → slice_get (xs ++ a ∷ []) i ≡ Some x → (slice_get xs i ≡ Some x) ⊎ ((i ≡ length xs) × (a ≡ x))
 slice_get-push [] a zero x h = inr (refl, same_some a x h)
 slice_get-push [] a (suc i) x h = absurd (none_some x _ h refl)
 slice_get-push (y ∷ ys) a zero x h = inl h
@@ -69,7 +69,7 @@ slice_get-push (y ∷ ys) a (suc i) x h = elim (slice_get-push ys a i x h) [
 ]
 
 -- what stands at the place of a station's word for a round
-place_stands : (xs : List Arrival) (from i t k : ℕ) → first_arrival xs from i t ≡ Some k → (a : Arrival) × (slice_get xs k ≡ Some a) × (a.station ≡ i) × (a.round ≡ t) × (from ≤ k)
+pub place_stands : (xs : List Arrival) (from i t k : ℕ) → first_arrival xs from i t ≡ Some k → (a : Arrival) × (slice_get xs k ≡ Some a) × (a.station ≡ i) × (a.round ≡ t) × (from ≤ k)
 place_stands xs from i t k h =
     let found = position_stands (λ a. (a.station == i) && (a.round == t)) from (drop from xs) k h in
     let tests = and_parts (found.1.station == i) (found.1.round == t) found.4 in
@@ -77,7 +77,7 @@ place_stands xs from i t k h =
     (found.1, sym (slice_get-drop xs from found.0 k (sym at)) ∙ found.3, eqb-true found.1.station i tests.0, eqb-true found.1.round t tests.1, omega arith)
 
 -- a word that came since then has a place
-place_found : (xs : List Arrival) (from i t q : ℕ) (a : Arrival) → slice_get xs q ≡ Some a → from ≤ q → a.station ≡ i → a.round ≡ t → (k : ℕ) × (first_arrival xs from i t ≡ Some k)
+pub place_found : (xs : List Arrival) (from i t q : ℕ) (a : Arrival) → slice_get xs q ≡ Some a → from ≤ q → a.station ≡ i → a.round ≡ t → (k : ℕ) × (first_arrival xs from i t ≡ Some k)
 place_found xs from i t q a at since is_i is_t = position_found (λ b. (b.station == i) && (b.round == t)) from (drop from xs) (q - from) a
     (slice_get-drop xs from (q - from) q (omega arith) ∙ at)
     (both_true (a.station == i) (a.round == t) (eq-eqb a.station i is_i) (eq-eqb a.round t is_t))
@@ -87,7 +87,7 @@ place_found xs from i t q a at since is_i is_t = position_found (λ b. (b.statio
     both_true false c first second = absurd (true≢false (sym first))
 
 -- it keeps its place when others come
-place_kept : (xs more : List Arrival) (from i t k : ℕ) → first_arrival xs from i t ≡ Some k → first_arrival (xs ++ more) from i t ≡ Some k
+pub place_kept : (xs more : List Arrival) (from i t k : ℕ) → first_arrival xs from i t ≡ Some k → first_arrival (xs ++ more) from i t ≡ Some k
 place_kept xs more from i t k h =
     let stands = place_stands xs from i t k h in
     let inside = slice_get_within xs k stands.0 stands.1 in
@@ -114,7 +114,7 @@ filter_map-full h (z ∷ zs) full x there = elim (none_or_some (h z)) [
 ]
 
 -- where each item gives something, as many are kept
-full-filter_map : (h : ℕ → Option ℕ) (xs : List ℕ) → ((x : ℕ) → is_among xs x ≡ true → (y : ℕ) × (h x ≡ Some y)) → length (filter_map h xs) ≡ length xs
+pub full-filter_map : (h : ℕ → Option ℕ) (xs : List ℕ) → ((x : ℕ) → is_among xs x ≡ true → (y : ℕ) × (h x ≡ Some y)) → length (filter_map h xs) ≡ length xs
 full-filter_map h [] some = refl
 full-filter_map h (x ∷ xs) some =
     let here = some x (or_first (nat_eq x x) (is_among xs x) (eq-eqb x x refl)) in
@@ -138,7 +138,7 @@ last_place h most m (x ∷ xs) low below = elim (none_or_some (h x)) [
 ]
 
 -- a round that has an end has all places
-end_full : (n : ℕ) (xs : List Arrival) (t from s : ℕ) → end_from n xs t from ≡ Some s → (length (places n xs from t) ≡ n) × (fold (λ m place. max m (place + 1)) from (places n xs from t) ≡ s)
+pub end_full : (n : ℕ) (xs : List Arrival) (t from s : ℕ) → end_from n xs t from ≡ Some s → (length (places n xs from t) ≡ n) × (fold (λ m place. max m (place + 1)) from (places n xs from t) ≡ s)
 end_full n xs t from s h = (elim (length (places n xs from t) == n) as (λ b. length (places n xs from t) == n ≡ b
     → (if b then Some (fold (λ m place. max m (place + 1)) from (places n xs from t)) else None) ≡ Some s → (length (places n xs from t) ≡ n)
     × (fold (λ m place. max m (place + 1)) from (places n xs from t) ≡ s)) [
@@ -147,11 +147,11 @@ end_full n xs t from s h = (elim (length (places n xs from t) == n) as (λ b. le
     ]) refl h
 
 -- and one that has all places has an end
-full_end : (n : ℕ) (xs : List Arrival) (t from : ℕ) → length (places n xs from t) ≡ n → end_from n xs t from ≡ Some (fold (λ m place. max m (place + 1)) from (places n xs from t))
+pub full_end : (n : ℕ) (xs : List Arrival) (t from : ℕ) → length (places n xs from t) ≡ n → end_from n xs t from ≡ Some (fold (λ m place. max m (place + 1)) from (places n xs from t))
 full_end n xs t from full = ap (λ b. if b then Some (fold (λ m place. max m (place + 1)) from (places n xs from t)) else None) (eq-eqb (length (places n xs from t)) n full)
 
 -- each station of a round that has an end has a place in it
-end_places : (n : ℕ) (xs : List Arrival) (t from s i : ℕ) → end_from n xs t from ≡ Some s → is_among (range_with_len 0 n) i ≡ true → (k : ℕ) × (first_arrival xs from i t ≡ Some k)
+pub end_places : (n : ℕ) (xs : List Arrival) (t from s i : ℕ) → end_from n xs t from ≡ Some s → is_among (range_with_len 0 n) i ≡ true → (k : ℕ) × (first_arrival xs from i t ≡ Some k)
 end_places n xs t from s i h there = let count = length-range_with_len 0 n in filter_map-full (λ j. first_arrival xs from j t) (range_with_len 0 n) ((end_full n xs t from s h).0 ∙ sym count) i there
 
 -- the end stays where more arrivals come
@@ -170,7 +170,7 @@ end_within n xs t from s low h =
     omega arith
 
 -- a round began where it began when more arrivals come
-start_kept : (n : ℕ) (xs more : List Arrival) (t s : ℕ) → round_start n xs t ≡ Some s → round_start n (xs ++ more) t ≡ Some s
+pub start_kept : (n : ℕ) (xs more : List Arrival) (t s : ℕ) → round_start n xs t ≡ Some s → round_start n (xs ++ more) t ≡ Some s
 unfolding round_start
 start_kept n xs more zero s h = h
 start_kept n xs more (suc t) s h = elim (none_or_some (round_start n xs t)) [
@@ -180,7 +180,7 @@ start_kept n xs more (suc t) s h = elim (none_or_some (round_start n xs t)) [
 ]
 
 -- not past the arrivals
-start_within : (n : ℕ) (xs : List Arrival) (t s : ℕ) → round_start n xs t ≡ Some s → s ≤ length xs
+pub start_within : (n : ℕ) (xs : List Arrival) (t s : ℕ) → round_start n xs t ≡ Some s → s ≤ length xs
 unfolding round_start
 start_within n xs zero s h = let same = same_some 0 s h in omega arith
 start_within n xs (suc t) s h = elim (none_or_some (round_start n xs t)) [
@@ -189,7 +189,7 @@ start_within n xs (suc t) s h = elim (none_or_some (round_start n xs t)) [
 ]
 
 -- a round that began has one before it that began and has an end
-start_before : (n : ℕ) (xs : List Arrival) (t s : ℕ) → round_start n xs (suc t) ≡ Some s → (from : ℕ) × (round_start n xs t ≡ Some from) × (end_from n xs t from ≡ Some s)
+pub start_before : (n : ℕ) (xs : List Arrival) (t s : ℕ) → round_start n xs (suc t) ≡ Some s → (from : ℕ) × (round_start n xs t ≡ Some from) × (end_from n xs t from ≡ Some s)
 unfolding round_start
 start_before n xs t s h = elim (none_or_some (round_start n xs t)) [
   | inl none ↦ absurd (none_some s _ h (ap (option_and_then (end_from n xs t)) none))
@@ -197,12 +197,12 @@ start_before n xs t s h = elim (none_or_some (round_start n xs t)) [
 ]
 
 -- and the other way round
-start_after : (n : ℕ) (xs : List Arrival) (t from s : ℕ) → round_start n xs t ≡ Some from → end_from n xs t from ≡ Some s → round_start n xs (suc t) ≡ Some s
+pub start_after : (n : ℕ) (xs : List Arrival) (t from s : ℕ) → round_start n xs t ≡ Some from → end_from n xs t from ≡ Some s → round_start n xs (suc t) ≡ Some s
 unfolding round_start
 start_after n xs t from s began ended = ap (option_and_then (end_from n xs t)) began ∙ ended
 
 -- no round after one that has not begun is complete
-none_complete : (n : ℕ) (xs : List Arrival) (t d : ℕ) → round_start n xs t ≡ None → round_start n xs (t + d) ≡ None
+pub none_complete : (n : ℕ) (xs : List Arrival) (t d : ℕ) → round_start n xs t ≡ None → round_start n xs (t + d) ≡ None
 none_complete n xs t zero none = ap (round_start n xs) (let same : t + 0 ≡ t = omega arith in same) ∙ none
 none_complete n xs t (suc d) none = elim (none_or_some (round_start n xs (t + suc d))) [
   | inl still ↦ still
@@ -226,7 +226,7 @@ count_at_most p c a (suc m) fails =
     at_most_one false = omega arith
 
 -- the round in progress has begun
-progress_began : (n rounds : ℕ) (xs : List Arrival) (c : ℕ) → complete_rounds n rounds xs ≡ c → (s : ℕ) × (round_start n xs c ≡ Some s)
+pub progress_began : (n rounds : ℕ) (xs : List Arrival) (c : ℕ) → complete_rounds n rounds xs ≡ c → (s : ℕ) × (round_start n xs c ≡ Some s)
 unfolding round_start
 progress_began n rounds xs zero is = (0, refl)
 progress_began n rounds xs (suc c) is = elim (none_or_some (round_start n xs (suc c))) [
@@ -357,7 +357,7 @@ ended_too n xs ys moved timely (suc t) s h =
     (fold (λ m place. max m (place + 1)) began.0 (places n ys began.0 t), start_after n ys t began.0 _ began.1 (full_end n ys t began.0 (full ∙ count)))
 
 -- the accepted word of a station in a complete round stands in the list
-accepted_stands : (n : ℕ) (xs : List Arrival) (t s i : ℕ) → round_start n xs (suc t) ≡ Some s → is_among (range_with_len 0 n) i ≡ true → (q : ℕ) × (a : Arrival) × (slice_get xs q ≡ Some a)
+pub accepted_stands : (n : ℕ) (xs : List Arrival) (t s i : ℕ) → round_start n xs (suc t) ≡ Some s → is_among (range_with_len 0 n) i ≡ true → (q : ℕ) × (a : Arrival) × (slice_get xs q ≡ Some a)
     × (a.station ≡ i) × (a.round ≡ t) × (accepted n xs i t ≡ Some a.word)
 accepted_stands n xs t s i h there =
     let before = start_before n xs t s h in

@@ -1,19 +1,13 @@
 -- The words of a round among all words of a file.
-use Rattle.std.proofs.Common.{◌≡◌, ℕ, zero, suc, ◌+◌, ◌*◌, ◌<◌, ◌≤◌, List, [], ◌∷◌, ◌++◌, length, map, Err, take, drop, sym, ap, ◌∙◌, arith}
+use Rattle.std.proofs.Common.{◌≡◌, ℕ, zero, suc, ◌+◌, ◌*◌, ◌<◌, ◌≤◌, List, [], ◌∷◌, ◌++◌, length, map, take, drop, sym, ap, ◌∙◌, arith}
 use Rattle.std.specs.List.{range_with_len}
 use Rattle.std.proofs.Math.Nat.{mul-le-mul_right, add-mul, one-mul}
 use Rattle.std.proofs.lemmas.List.FromFn.{take-map-range_with_len, map-range_with_len_more, get_or-map-range_with_len, length-map-range_with_len, fill_by_all}
 use Rattle.dc_spec.specs.Words.{word_sum}
 use Rattle.dc_spec.specs.Bytes.{word_at}
 use Rattle.dc_spec.specs.Recorded.{superposed}
-use Rattle.dc_field.specs.Answers.{Answers}
-use Rattle.dc_field.specs.declared.refusal.Refusal.{Refusal}
-use Rattle.dc_field.specs.declared.refusal.Refusal.TheVariants.{NoMemory, Bad}
-use Rattle.dc_superpose.specs.declared.fault.TranscriptFault.{TranscriptFault}
-use Rattle.dc_superpose.specs.declared.sizes.Sizes.{Sizes}
-use Rattle.dc_superpose.specs.Reading.{words_at, words_of}
-use Rattle.dc_superpose.specs.Sizes.{summed}
-use Rattle.dc_superpose.specs.Pieces.{words_from, ReadsWords}
+use Rattle.dc_superpose.specs.Reading.{words_at}
+use Rattle.dc_superpose.specs.Pieces.{words_from}
 
 -- one round more
 pub next_round : (r n : ℕ) → (r + 1) * n ≡ r * n + n
