@@ -100,3 +100,86 @@ fn two_pieces_run_at_once(rt: HostRuntime) -> Result<(), Fail> {
     assert!(rt; gate.last_saw.load(Ordering::SeqCst));
     Ok(())
 }
+
+/// A gate that knows which of three pieces passed it.
+#[derive(Drop)]
+struct Passed {
+    first: AtomicBool,
+    second: AtomicBool,
+    third: AtomicBool,
+}
+
+impl Gate for Passed {
+    fn pass(&self, piece: usize) {
+        match piece {
+            0 => self.first.store(true, Ordering::SeqCst),
+            1 => self.second.store(true, Ordering::SeqCst),
+            _ => self.third.store(true, Ordering::SeqCst),
+        }
+    }
+}
+
+/// A piece that reports where its word is computed before it passed the gate.
+struct Watched<'a> {
+    passed: &'a AtomicBool,
+    early: &'a AtomicBool,
+    held: Word,
+}
+
+impl Piece for Watched<'_> {
+    ghost of = { λ p. p.held };
+
+    fn word(&self) -> Word {
+        if !self.passed.load(Ordering::SeqCst) {
+            self.early.store(true, Ordering::SeqCst);
+        }
+        self.held
+    }
+}
+
+/// Each of three pieces, computed by so many workers, passes the gate before its word is computed.
+fn each_passes_first<R: Threads + Sync + AllocGlobal + Abort>(
+    rt: &R,
+    workers: u32,
+) -> Result<(), Fail>
+    requires some { 1 ≤ workers }
+    requires most { workers ≤ 64 }
+{
+    let gate = Passed {
+        first: AtomicBool::new(false),
+        second: AtomicBool::new(false),
+        third: AtomicBool::new(false),
+    };
+    let early = AtomicBool::new(false);
+    let held = Word::zero();
+    let pieces = [
+        Watched {
+            passed: &gate.first,
+            early: &early,
+            held,
+        },
+        Watched {
+            passed: &gate.second,
+            early: &early,
+            held,
+        },
+        Watched {
+            passed: &gate.third,
+            early: &early,
+            held,
+        },
+    ];
+    let words = map_words(rt, rt.alloc(), &pieces, workers, &gate)
+        .ok()
+        .ok_or("there is memory")?;
+    assert_eq!(rt; words.as_slice().len(), 3);
+    assert!(rt; !early.load(Ordering::SeqCst));
+    assert!(rt; gate.third.load(Ordering::SeqCst));
+    Ok(())
+}
+
+#[test]
+fn pieces_pass_the_gate_first(rt: HostRuntime) -> Result<(), Fail> {
+    each_passes_first(&rt, 1)?;
+    each_passes_first(&rt, 2)
+}

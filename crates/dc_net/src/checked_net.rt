@@ -2,12 +2,14 @@
 
 ghost use Rattle.std.specs.Prelude.{◌≡◌, ◌<◌, length, All};
 ghost use Rattle.dc_net_rules.specs.Agreement.{disagreement};
+ghost use Rattle.dc_net_rules.specs.Nets.{IsNet};
 ghost use Rattle.dc_net.specs.Checked.{IsChecked, Checks};
 ghost use Rattle.dc_net.specs.Tests.{as_fault};
 
 use crate::fault::NetFault;
 use crate::key_checks::keys_fault;
 use crate::net::Net;
+use crate::net_rules::note_net;
 use crate::script_checks::script_fault;
 use crate::stations::{honest_of, member_flags};
 use crate::stream_checks::streams_fault;
@@ -22,13 +24,13 @@ pub struct CheckedNet {
 
 impl Model for CheckedNet {
     ghost use Rattle.dc_spec.specs.Net.{Net as NetValue};
-    ghost use Rattle.dc_net.specs.Checked.{IsChecked};
+    ghost use Rattle.dc_net_rules.specs.Nets.{IsNet};
 
     ghost Value = { NetValue };
 
     ghost view = { λ c. c.net };
 
-    ghost invariant = { λ c. IsChecked c.net };
+    ghost invariant = { λ c. IsNet c.net };
 }
 
 impl CheckedNet {
@@ -37,6 +39,7 @@ impl CheckedNet {
         requires { IsChecked net }
         ensures { result ≡ net }
     {
+        note_net(&net);
         CheckedNet { net }
     }
 
@@ -44,6 +47,7 @@ impl CheckedNet {
     pub fn net(&self) -> &Net
         ensures value { result.now ≡ self.now }
         ensures checked { IsChecked self.now }
+        ensures is_net { IsNet self.now }
     {
         &self.net
     }
@@ -60,7 +64,7 @@ impl Net {
     {
         match net_fault(&self) {
             Some(fault) => Err(fault),
-            None => Ok(CheckedNet { net: self }),
+            None => Ok(CheckedNet::of_agreeing(self)),
         }
     }
 }

@@ -8,6 +8,7 @@ mod fault;
 mod key_checks;
 mod key_part;
 mod net;
+mod net_rules;
 mod played;
 mod publishing;
 mod rows;
