@@ -1,13 +1,13 @@
 //! A wire over the sockets of the system.
 
-ghost use Rattle.std.specs.Prelude.{◌<◌, vec_len};
+ghost use Rattle.std.specs.Prelude.{◌≡◌, ◌<◌, vec_len};
 
 use dc_edge::{LinkFault, TcpWire, Wire};
 use std::process;
 use std::process::Abort;
 use std::test::Fail;
 
-/// Listens at a port that is free, since other checks may run side by side. The answer is the address.
+/// Listens at a port that is free, since checks may run side by side. The answer is the address.
 fn listen_somewhere(rt: HostRuntime, wire: &mut TcpWire<HostRuntime>) -> Result<String, Fail> {
     let first = 20000 + process::id(rt.process()) % 20000;
     for port in first..first + 100 {
@@ -22,6 +22,7 @@ fn listen_somewhere(rt: HostRuntime, wire: &mut TcpWire<HostRuntime>) -> Result<
 /// Asserts the next bytes of a peer.
 fn gives<R: Abort>(rt: &R, wire: &mut TcpWire<HostRuntime>, peer: u32, bytes: &[u8])
     requires { peer < vec_len wire.old.streams }
+    ensures { vec_len wire.new.streams ≡ vec_len wire.old.streams }
 {
     let mut buffer = [0; 16];
     let given = wire.recv(peer, &mut buffer).map(|count| &buffer[..count]);
