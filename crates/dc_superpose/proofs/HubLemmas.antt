@@ -335,7 +335,8 @@ missing_is : (c : HubState) (n rounds : ℕ) (xs : List Arrival) (a : Arrival) �
     → first_missing c.stations (xs ++ a ∷ []) c.round ≡ first_clear (set c.there a.station true)
 missing_is c n rounds xs a hub stands due now = find-first_clear (λ i. is_none (accepted c.stations (xs ++ a ∷ []) i c.round)) (set c.there a.station true) c.stations
     (length-set c.there a.station true ∙ hub.flags)
-    (λ i lt. ap is_none (flagged c n rounds xs a i hub stands due now lt) ∙ none_where (get_or (set c.there a.station true) i false) (get_or (words_with c a.station a.word) (c.round * c.stations + i) []))
+    (λ i lt. ap is_none (flagged c n rounds xs a i hub stands due now lt)
+    ∙ none_where (get_or (set c.there a.station true) i false) (get_or (words_with c a.station a.word) (c.round * c.stations + i) []))
   where
     none_where : (b : Bool) (w : List ℕ) → is_none (cond b (Some w) None) ≡ not b
     none_where true w = refl
@@ -420,8 +421,10 @@ accepted_reply c new n rounds xs a (Complete sum) hub due now is stands = ap com
 
 pub accepted_stands : (c new : HubState) (n rounds : ℕ) (xs : List Arrival) (a : Arrival) (step : HubStep) → IsHub c → IsDue c a.station → a.round ≡ c.round → Accepts c a.station a.word new step
     → StandsFor c n rounds xs → StandsFor new n rounds (xs ++ a ∷ [])
-accepted_stands c new n rounds xs a (Waiting m) hub due now is stands = subst (λ (s : HubState). StandsFor s n rounds (xs ++ a ∷ [])) (sym is.1) (waiting_stands c n rounds xs a m hub due now is.0 stands)
-accepted_stands c new n rounds xs a (Complete sum) hub due now is stands = subst (λ (s : HubState). StandsFor s n rounds (xs ++ a ∷ [])) (sym is.1) (complete_stands c n rounds xs a hub due now is.0 stands)
+accepted_stands c new n rounds xs a (Waiting m) hub due now is stands =
+    subst (λ (s : HubState). StandsFor s n rounds (xs ++ a ∷ [])) (sym is.1) (waiting_stands c n rounds xs a m hub due now is.0 stands)
+accepted_stands c new n rounds xs a (Complete sum) hub due now is stands =
+    subst (λ (s : HubState). StandsFor s n rounds (xs ++ a ∷ [])) (sym is.1) (complete_stands c n rounds xs a hub due now is.0 stands)
 
 pub first_missing_is : (c : HubState) (n rounds : ℕ) (xs : List Arrival) (m : ℕ) → IsHub c → StandsFor c n rounds xs → c.round < c.rounds → first_clear c.there ≡ Some m
     → first_missing n xs c.round ≡ Some m

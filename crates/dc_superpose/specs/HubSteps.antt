@@ -1,5 +1,5 @@
 -- What a hub core answers to an arrival, and what it has after it.
-use Rattle.std.specs.Prelude.{ℕ, ◌+◌, ◌*◌, ◌<◌, ◌≡◌, true, false, nat_lt, nat_le, ◌==◌, if◌then◌else◌, List, [], get_or, set, replicate, Option, Some, None, Result, Ok, Err}
+use Rattle.std.specs.Prelude.{ℕ, ◌+◌, ◌*◌, ◌<◌, ◌≡◌, Bool, true, false, nat_lt, nat_le, ◌==◌, if◌then◌else◌, List, [], get_or, set, replicate, Option, Some, None, Result, Ok, Err}
 use Rattle.dc_spec.specs.Recorded.{round_words}
 use Rattle.dc_spec.specs.Words.{word_sum}
 use Rattle.dc_hub_rules.specs.Hubs.{HubReply, waiting, complete, no_station, over, old, ahead, repeated}
@@ -27,7 +27,8 @@ fault_of c i t =
     else if c.round == c.rounds then Some Over
     else if nat_lt t c.round then Some (Old c.round)
     else if nat_lt c.round t then Some (Ahead c.round)
-    else if get_or c.there i false then Some (Repeated (get_or c.words (c.round * c.stations + i) []))
+    else if get_or c.there i false
+    then Some (Repeated (get_or c.words (c.round * c.stations + i) []))
     else None
 
 -- the station has no word yet for the round in progress
@@ -42,18 +43,33 @@ words_with c i w = set c.words (c.round * c.stations + i) w
 
 -- the words of the round in progress of a table
 abbrev pub words_now : HubState → List (List ℕ) → List (List ℕ)
-words_now c words = round_words (record { stations = c.stations; rounds = c.rounds; words = words }) c.round
+words_now c words =
+    round_words (record { stations = c.stations; rounds = c.rounds; words = words }) c.round
 
--- the core with the word of a station that was missing, by the answer: the round goes on, or the next one begins
+-- the core in this round, with this table and these flags
+abbrev pub with_table : HubState → ℕ → List (List ℕ) → List Bool → HubState
+with_table c round words there = record {
+  stations = c.stations;
+  rounds = c.rounds;
+  round = round;
+  words = words;
+  there = there;
+}
+
+-- the core with the word of a station that was missing, by the answer: the round goes on, or the
+-- next one begins
 abbrev pub Accepts : HubState → ℕ → List ℕ → HubState → HubStep → Type 0
 Accepts c i w new (Waiting missing) = (first_clear (set c.there i true) ≡ Some missing)
-    × (new ≡ record { stations = c.stations; rounds = c.rounds; round = c.round; words = words_with c i w; there = set c.there i true })
+    × (new ≡ with_table c c.round (words_with c i w) (set c.there i true))
 Accepts c i w new (Complete sum) = (first_clear (set c.there i true) ≡ None)
-    × (new ≡ record { stations = c.stations; rounds = c.rounds; round = c.round + 1; words = words_with c i w; there = replicate c.stations false })
+    × (new ≡ with_table c (c.round + 1) (words_with c i w) (replicate c.stations false))
     × (sum ≡ word_sum (words_now c (words_with c i w)))
 
--- the numbers of the session stay, and one more round is complete exactly by the answer that says so
+-- the numbers of the session stay, and one more round is complete exactly by the answer that says
+-- so
 abbrev pub Counts : HubState → HubState → Result HubStep HubFault → Type 0
-Counts c new (Ok (Complete sum)) = (new.stations ≡ c.stations) × (new.rounds ≡ c.rounds) × (new.round ≡ c.round + 1)
-Counts c new (Ok (Waiting missing)) = (new.stations ≡ c.stations) × (new.rounds ≡ c.rounds) × (new.round ≡ c.round)
+Counts c new (Ok (Complete sum)) =
+    (new.stations ≡ c.stations) × (new.rounds ≡ c.rounds) × (new.round ≡ c.round + 1)
+Counts c new (Ok (Waiting missing)) =
+    (new.stations ≡ c.stations) × (new.rounds ≡ c.rounds) × (new.round ≡ c.round)
 Counts c new (Err fault) = new ≡ c

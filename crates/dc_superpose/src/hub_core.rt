@@ -39,9 +39,22 @@ impl Model for HubCore {
 
     ghost Value = { HubState };
 
-    ghost view = { λ c. record { stations = c.stations; rounds = c.rounds; round = c.round; words = c.words; there = c.there } };
+    ghost view = { λ c. record {
+      stations = c.stations;
+      rounds = c.rounds;
+      round = c.round;
+      words = c.words;
+      there = c.there;
+    } };
 
-    ghost invariant = { λ c. IsHub (record { stations = c.stations; rounds = c.rounds; round = c.round; words = c.words; there = c.there }) };
+    ghost invariant = { λ c.
+        IsHub (record {
+          stations = c.stations;
+          rounds = c.rounds;
+          round = c.round;
+          words = c.words;
+          there = c.there;
+        }) };
 }
 
 impl HubCore {
