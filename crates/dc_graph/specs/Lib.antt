@@ -1,2 +1,4 @@
 pub mod Graph
 pub mod Faults
+pub mod Forest
+pub mod Walk

@@ -3,9 +3,15 @@
 
 mod coalition;
 mod fault;
+mod forest;
 mod graph;
+mod honest;
 mod judging;
+mod place;
+mod upwards;
+mod walk;
 
 pub use coalition::Coalition;
 pub use fault::{GraphFault, MemberFault};
+pub use forest::Forest;
 pub use graph::Graph;

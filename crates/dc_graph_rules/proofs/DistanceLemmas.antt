@@ -148,7 +148,7 @@ part-joined g good u (v ∷ vs) w low walks =
     part-neighbours g good u v low inside walks.0 ∙ part-joined g good v vs w inside walks.1
 
 -- a search finds something where something passes
-found_by : (p : ℕ → Bool) (xs : List ℕ) (x : ℕ) → is_among xs x ≡ true → p x ≡ true → (y : ℕ) × (find p xs ≡ Some y)
+pub found_by : (p : ℕ → Bool) (xs : List ℕ) (x : ℕ) → is_among xs x ≡ true → p x ≡ true → (y : ℕ) × (find p xs ≡ Some y)
 found_by p [] x h passes = absurd (true≢false (sym h))
 found_by p (z ∷ zs) x h passes = (elim (p z) as (λ b. p z ≡ b → (y : ℕ) × (cond b (Some z) (find p zs) ≡ Some y)) [
   | true ↦ λ e. (z, refl)

@@ -93,7 +93,7 @@ roots_and_distances g good roots far are v low =
     (own, omega arith)
 
 -- equal tests find the same
-find_same : (p q : ℕ → Bool) (xs : List ℕ) → ((x : ℕ) → is_among xs x ≡ true → p x ≡ q x) → find p xs ≡ find q xs
+pub find_same : (p q : ℕ → Bool) (xs : List ℕ) → ((x : ℕ) → is_among xs x ≡ true → p x ≡ q x) → find p xs ≡ find q xs
 find_same p q [] same = refl
 find_same p q (x ∷ xs) same = rw (same x (or_first (nat_eq x x) (is_among xs x) (eq-eqb x x refl)), find_same p q xs (λ y there. same y (or_second (nat_eq y x) (is_among xs y) there))) refl
 
