@@ -1,6 +1,6 @@
 //! The list type of all crates.
 
-ghost use Rattle.std.specs.Prelude.{◌≡◌, IfOk};
+ghost use Rattle.std.specs.Prelude.{◌≡◌, ◌<◌, length, slice_set, IfOk};
 
 use crate::refusal::NoMemory;
 use crate::word::Word;
@@ -52,6 +52,14 @@ impl<T> Items<T> {
 }
 
 impl<T: Copy> Items<T> {
+    /// Puts `item` in the place of item number `i`. Takes no memory.
+    pub fn set(&mut self, i: usize, item: T)
+        requires { i < length self.old }
+        ensures { self.new ≡ slice_set self.old i item }
+    {
+        self.items[i] = item;
+    }
+
     /// The same items again.
     pub fn copy(&self, alloc: Global) -> Result<Items<T>, NoMemory>
         ensures { IfOk result (λ s. s ≡ self.now) }

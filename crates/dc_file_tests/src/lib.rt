@@ -4,6 +4,8 @@
 #[cfg(test)]
 mod answers;
 #[cfg(test)]
+mod forest_tests;
+#[cfg(test)]
 mod graph_tests;
 #[cfg(test)]
 mod key_file_tests;

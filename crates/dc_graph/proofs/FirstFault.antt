@@ -76,7 +76,7 @@ pub record IsTable (n : ℕ) (es : List (ℕ × ℕ)) (i : ℕ) (seen : List Boo
   pub wide : length seen ≡ n * n
   pub flags : (u v : ℕ) → u < n → v < n → get_or seen (u * n + v) false ≡ is_listed (take i es) (u, v)
 
-place_apart : (n u v x y : ℕ) → v < n → y < n → u * n + v ≡ x * n + y → (u ≡ x) × (v ≡ y)
+pub place_apart : (n u v x y : ℕ) → v < n → y < n → u * n + v ≡ x * n + y → (u ≡ x) × (v ≡ y)
 place_apart n u v x y v' y' e =
     (sym (div-mul-add u n v v') ∙ ap (λ (k : ℕ). k / n) e ∙ div-mul-add x n y y', sym (mod-mul-add u n v v') ∙ ap (λ (k : ℕ). k % n) e ∙ mod-mul-add x n y y')
 

@@ -141,14 +141,14 @@ root-least g good u w low joined =
     ((joined-walks g good u (root g u) low).0 (first_among (part g u) w in_part), subst (λ (xs : List ℕ). slice_index xs 0 ≤ w) (sym filtered.1) first)
 
 -- joined stations have the same part
-part-joined : (g : KeyGraph) → IsKeyGraph g → (u : ℕ) (walk : List ℕ) (w : ℕ) → u < g.stations → IsWalk g u walk w → part g u ≡ part g w
+pub part-joined : (g : KeyGraph) → IsKeyGraph g → (u : ℕ) (walk : List ℕ) (w : ℕ) → u < g.stations → IsWalk g u walk w → part g u ≡ part g w
 part-joined g good u [] w low walks = ap (part g) walks
 part-joined g good u (v ∷ vs) w low walks =
     let inside = neighbour_below g good u v walks.0 in
     part-neighbours g good u v low inside walks.0 ∙ part-joined g good v vs w inside walks.1
 
 -- a search finds something where something passes
-found_by : (p : ℕ → Bool) (xs : List ℕ) (x : ℕ) → is_among xs x ≡ true → p x ≡ true → (y : ℕ) × (find p xs ≡ Some y)
+pub found_by : (p : ℕ → Bool) (xs : List ℕ) (x : ℕ) → is_among xs x ≡ true → p x ≡ true → (y : ℕ) × (find p xs ≡ Some y)
 found_by p [] x h passes = absurd (true≢false (sym h))
 found_by p (z ∷ zs) x h passes = (elim (p z) as (λ b. p z ≡ b → (y : ℕ) × (cond b (Some z) (find p zs) ≡ Some y)) [
   | true ↦ λ e. (z, refl)
@@ -249,7 +249,7 @@ chain_to_root g good (suc k) w low fuel = elim (zero_or_next (rank_in g w)) [
 ]
 
 -- the stations of a chain are joined with its first one
-chain_joined : (g : KeyGraph) → IsKeyGraph g → (k w z : ℕ) → w < g.stations → is_among (chain (parents g) k w) z ≡ true → is_among (part g w) z ≡ true
+pub chain_joined : (g : KeyGraph) → IsKeyGraph g → (k w z : ℕ) → w < g.stations → is_among (chain (parents g) k w) z ≡ true → is_among (part g w) z ≡ true
 unfolding chain
 chain_joined g good zero w z low h = elim (or_cases (nat_eq z w) false h) [
   | inl same ↦ subst (λ (x : ℕ). is_among (part g w) x ≡ true) (sym (eqb-true z w same)) (start_reached g w g.stations low)

@@ -39,7 +39,7 @@ chain_ranks ps rank ranked (suc k) u z h = elim (or_cases (nat_eq z u) (is_among
 ]
 
 -- one of two tests that never both pass counts
-either_counts : (q r : Bool) (x : ℕ) → (q ≡ true → r ≡ false) → cond (q || r) x 0 ≡ cond q x 0 + cond r x 0
+pub either_counts : (q r : Bool) (x : ℕ) → (q ≡ true → r ≡ false) → cond (q || r) x 0 ≡ cond q x 0 + cond r x 0
 either_counts true r x apart = rw (apart refl) (omega arith)
 either_counts false r x apart = omega arith
 

@@ -14,7 +14,7 @@ use Rattle.dc_graph_rules.proofs.DistanceLemmas.{never_lacking, has_parent, at_r
 use Rattle.dc_spec.proofs.Options.{some-inj}
 
 -- nothing before what a search finds passes the test
-found_first : (p : ℕ → Bool) (a n x w : ℕ) → find p (range_with_len a n) ≡ Some x → a ≤ w → w < x → p w ≡ false
+pub found_first : (p : ℕ → Bool) (a n x w : ℕ) → find p (range_with_len a n) ≡ Some x → a ≤ w → w < x → p w ≡ false
 found_first p a zero x w is from less = absurd (none-some _ is)
 found_first p a (suc n) x w is from less = here (p a) refl is (λ h after. found_first p (a + 1) n x w h after less)
   where
