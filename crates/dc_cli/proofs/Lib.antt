@@ -1,4 +1,5 @@
 pub mod CommandLemmas
+pub mod SpelledLemmas
 pub mod ShelfLemmas
 pub mod MakingLemmas
 pub mod ReplayLemmas

@@ -1,9 +1,10 @@
 -- What follows from what `trial` did.
-use Rattle.std.proofs.Common.{◌≡◌, ◌⊎◌, ℕ, inl, inr, refl}
+use Rattle.std.proofs.Common.{◌≡◌, ◌⊎◌, ℕ, List, inl, inr, refl, subst}
 use Rattle.dc_spec.specs.Outside.{SinkState, Rose, grown}
 use Rattle.dc_cli.specs.Trials.{summary_of, TrialRan}
+use Rattle.dc_cli.specs.Promises.{TellsName}
 use Rattle.dc_cli.specs.declared.outcome.Outcome.{Outcome}
-use Rattle.dc_cli.specs.declared.outcome.Outcome.TheVariants.{Done, Usage, SinkFault, NoMemory}
+use Rattle.dc_cli.specs.declared.outcome.Outcome.TheVariants.{Done, Usage, Missing, TooLong, Malformed, SinkFault, NoMemory}
 
 -- it ends in one of three ways
 pub TrialRan-usage : (seed stations words place : ℕ) (o o' : SinkState) → TrialRan seed stations words o o' (Usage place) → ⊥
@@ -33,3 +34,16 @@ TrialRan-completes seed stations words o o' Done calm p = inl refl
 TrialRan-completes seed stations words o o' NoMemory calm p = inr refl
 TrialRan-completes seed stations words o o' SinkFault calm p = absurd (calm p.1.answer.1)
 TrialRan-completes seed stations words o o' _ calm p = absurd p
+
+-- it reports no name
+pub TrialRan-untold : (seed stations words : ℕ) (o o' : SinkState) (outcome : Outcome) (name : List ℕ) → TellsName outcome name
+    → TrialRan seed stations words o o' outcome → ⊥
+TrialRan-untold seed stations words o o' outcome name tells p =
+    let P : Outcome → Type 0 = λ x. TrialRan seed stations words o o' x in
+    elim tells [
+      | inl e ↦ let q : P (Missing name) = subst P e p in q
+      | inr other ↦ elim other [
+        | inl e ↦ let q : P (TooLong name) = subst P e p in q
+        | inr f ↦ let q : P (Malformed name f.0) = subst P f.1 p in q
+      ]
+    ]

@@ -1,4 +1,4 @@
-use Rattle.dc_cli.proofs.PromiseLemmas.{RefusesOtherWords-run, PrintsSums-run, Completes-run, AsksInOrder-run, KeepsFiles-run, PrintsOnlyWhenDone-run, MissesTheAbsent-run, RefusesTheLong-run, RefusesTheMalformed-run, TellsTheFault-run, TellsTheLast-run, HasCauses-run, WritesKeys-run, WritesSeeds-run, WritesPads-run, MakesFiles-run, PrintsView-run, PrintsLogs-run, RunsNets-run, RunsLogs-run}
+use Rattle.dc_cli.proofs.PromiseLemmas.{RefusesOtherWords-run, PrintsSums-run, Completes-run, AsksInOrder-run, KeepsFiles-run, PrintsOnlyWhenDone-run, MissesTheAbsent-run, RefusesTheLong-run, RefusesTheMalformed-run, TellsTheFault-run, TellsTheLast-run, HasCauses-run, WritesKeys-run, WritesSeeds-run, WritesPads-run, MakesFiles-run, PrintsView-run, PrintsLogs-run, RunsNets-run, RunsLogs-run, PrintsSummary-run, RunsTrials-run}
 use Rattle.dc_cli.proofs.top.dcnet.Goals as goal
 
 pub returns-clause-words : goal.returns-clause-words
@@ -60,3 +60,9 @@ returns-clause-logs g c = PrintsLogs-run _ c.run-outcome.ensures
 
 pub returns-clause-log_nets : goal.returns-clause-log_nets
 returns-clause-log_nets g c = RunsLogs-run _ c.run-outcome.ensures
+
+pub returns-clause-trial : goal.returns-clause-trial
+returns-clause-trial g c = PrintsSummary-run _ c.run-outcome.ensures
+
+pub returns-clause-trials : goal.returns-clause-trials
+returns-clause-trials g c = RunsTrials-run _ c.run-outcome.ensures
