@@ -39,7 +39,8 @@ use Rattle.dc_cli.specs.declared.outcome.Outcome.TheVariants.{Done, Usage, Missi
 use Rattle.dc_cli.proofs.ShelfLemmas.{told_bytes, held_is_there, held_within, AskedUpTo, asked_none, asked_first, LastAsked, last_is}
 use Rattle.dc_cli.proofs.ReplayLemmas.{NetRan-kept, NetRan-asked, NetRan-asked_all, NetRan-silent, NetRan-missing, NetRan-long, NetRan-transcript, NetRan-last, NetRan-shelf_rose, NetRan-sink_rose, NetRan-prints, NetRan-completes}
 use Rattle.dc_cli.proofs.SpelledLemmas.{not_both, same_command}
-use Rattle.dc_cli.proofs.TrialLemmas.{TrialRan-silent, TrialRan-prints, TrialRan-sink_rose, TrialRan-completes, TrialRan-untold}
+use Rattle.dc_cli.proofs.TrialLemmas.{TrialRan-silent, TrialRan-prints, TrialRan-sink_rose, TrialRan-completes, TrialRan-untold, counts_all}
+use Rattle.dc_cli.proofs.RanLemmas.{Spells-runnable}
 use Rattle.dc_cli.proofs.MakingLemmas.{MakesOf-leaves, MakesOf-asked, MakesOf-asked_all, MakesOf-last, MakesOf-rose, MakesOf-missing, MakesOf-long, MakesOf-written, MakesOf-fault, MakesOf-completes, MakesOf-refuses}
 
 refused_words : (words : List (List ℕ)) (s s' : ShelfState) (o o' : SinkState) (outcome : Outcome) → Ran words s s' o o' outcome → is_form words ≡ false → outcome ≡ Usage (longest_begun words)
@@ -492,7 +493,9 @@ RunsLogs-run c ran = λ net files made p needed holds is calm_shelf calm_sink.
 pub PrintsSummary-run : (c : Call) → HasRun c → PrintsSummary c
 PrintsSummary-run c ran = λ e seed stations count workers p.
     let P : Outcome → Type 0 = λ x. CommandRan (trial seed stations count workers) c.shelf c.shelf' c.out c.out' x in
-    TrialRan-prints seed stations count c.out c.out' (subst P e (HasRun-as c (trial seed stations count workers) p ran)).1
+    let did = (subst P e (HasRun-as c (trial seed stations count workers) p ran)).1 in
+    let limits = Spells-runnable c.words (trial seed stations count workers) p in
+    (TrialRan-prints seed stations count c.out c.out' did, counts_all seed stations count limits.0 did.0)
 
 pub RunsTrials-run : (c : Call) → HasRun c → RunsTrials c
 RunsTrials-run c ran = λ seed stations count workers p calm.

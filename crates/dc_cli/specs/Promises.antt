@@ -22,7 +22,9 @@ use Rattle.dc_net_files.specs.Settled.{AreHeld}
 use Rattle.dc_run_texts.specs.View.{view_text}
 use Rattle.dc_run_texts.specs.Logs.{logs_text}
 use Rattle.dc_cli.specs.Replaying.{RunPrinted}
-use Rattle.dc_cli.specs.Trials.{summary_of}
+use Rattle.dc_net.specs.TrialNets.{trial_net}
+use Rattle.dc_net_rules.specs.Runs.{run_of}
+use Rattle.dc_cli.specs.Trials.{summary_of, CountsAll}
 use Rattle.dc_cli.specs.Forms.{texts, is_form, longest_begun}
 use Rattle.dc_cli.specs.Commands.{Task, sum, keygen, keygen_seeds, migrate, replay, logs, trial, Spells}
 use Rattle.dc_cli.specs.Summing.{Refused}
@@ -242,10 +244,11 @@ RunsLogs c = (net : List ℕ) (files : List File) (made : Net) → Spells c.word
     AreHeld c.shelf.holds files → net_step net (bytes_of files) ≡ makes made [] →
     (Rose c.shelf.faults c.shelf'.faults → ⊥) → (Rose c.out.faults c.out'.faults → ⊥) → (c.outcome ≡ Done) ⊎ (c.outcome ≡ NoMemory)
 
--- where `trial` is done, the summary of the run of the net of its numbers was printed, whatever the number of workers
+-- where `trial` is done, the summary of the run of the net of its numbers was printed, whatever the number of workers; what it counts
+-- is all that the stations had
 abbrev pub PrintsSummary : Call → Type 0
 PrintsSummary c = c.outcome ≡ Done → (seed stations count workers : ℕ) → Spells c.words (trial seed stations count workers) →
-    c.out'.written ≡ grown c.out.written (summary_of seed stations count)
+    (c.out'.written ≡ grown c.out.written (summary_of seed stations count)) × CountsAll stations (run_of (trial_net seed stations count))
 
 -- where the count of faults of the output did not rise, `trial` is done, or memory ran out
 abbrev pub RunsTrials : Call → Type 0

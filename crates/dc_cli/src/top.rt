@@ -3,6 +3,7 @@
 ghost use Rattle.dc_cli.specs.Forms.{texts};
 ghost use Rattle.dc_cli.specs.Commands.{IsRunnable, task_of};
 ghost use Rattle.dc_cli.specs.Promises.{call, RefusesOtherWords, PrintsSums, Completes, AsksInOrder, TellsTheLast, KeepsFiles, PrintsOnlyWhenDone, MissesTheAbsent, RefusesTheLong, RefusesTheMalformed, TellsTheFault, HasCauses, WritesKeys, WritesSeeds, WritesPads, MakesFiles, PrintsView, PrintsLogs, RunsNets, RunsLogs, PrintsSummary, RunsTrials};
+ghost use Rattle.dc_cli.specs.Theorems.{IsUntraceable, IsSteerable, DeliversMessages};
 ghost use Rattle.dc_cli.specs.Ran.{Ran, CommandRan, PutsLine};
 
 use crate::command::{Command, command_of};
@@ -75,6 +76,12 @@ pub fn dcnet<R: Threads + Sync, F: Shelf, K: Sink, E: Sink, G: Gate + Sync>(
     ensures trial { PrintsSummary
         (call F.state K.state words.now shelf.old shelf.new out.old out.new result) }
     ensures trials { RunsTrials
+        (call F.state K.state words.now shelf.old shelf.new out.old out.new result) }
+    ensures untraceable { IsUntraceable
+        (call F.state K.state words.now shelf.old shelf.new out.old out.new result) }
+    ensures steerable { IsSteerable
+        (call F.state K.state words.now shelf.old shelf.new out.old out.new result) }
+    ensures delivers { DeliversMessages
         (call F.state K.state words.now shelf.old shelf.new out.old out.new result) }
 {
     let outcome = run(rt, alloc, words, shelf, out, gate);
