@@ -1,6 +1,6 @@
 -- What a command did is what the call did.
 use Rattle.std.proofs.Common.{◌≡◌, ◌≤◌, ◌*◌, ◌/◌, ℕ, List, Option, None, Some, arith}
-use Rattle.std.proofs.Math.Nat.{mul-div-le, min-le_left, min-le_right, mul-le-mul_left, le-trans}
+use Rattle.std.proofs.Math.Nat.{mul-div-le, min-le_left, min-le_right, mul-le-mul_left, le_trans}
 use Rattle.std.proofs.lemmas.Grind.{common_steps}
 use Rattle.dc_spec.specs.Outside.{ShelfState, SinkState}
 use Rattle.dc_field.specs.NumberInText.{number_in}
@@ -50,8 +50,8 @@ Spells-runnable words (trial seed stations count workers) p =
     let q = p.2 in
     let some = between_limits 1 most_stations (number_in q.of_stations) stations q.stations_are in
     let few = between_limits 1 (most_words_of stations) (number_in q.of_count) count q.count_is in
-    let most : count ≤ most_words = le-trans few.1 (min-le_left most_words (524288 / stations)) in
-    let share : count ≤ 524288 / stations = le-trans few.1 (min-le_right most_words (524288 / stations)) in
-    let size : stations * count ≤ 524288 = le-trans (mul-le-mul_left stations share) (mul-div-le 524288 stations) in
+    let most : count ≤ most_words = le_trans few.1 (min-le_left most_words (524288 / stations)) in
+    let share : count ≤ 524288 / stations = le_trans few.1 (min-le_right most_words (524288 / stations)) in
+    let size : stations * count ≤ 524288 = le_trans (mul-le-mul_left stations share) (mul-div-le 524288 stations) in
     let limits = workers_limits q.rest workers q.workers_are in
     (some.0, some.1, few.0, most, size, limits.0, limits.1)
