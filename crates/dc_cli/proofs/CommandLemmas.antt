@@ -1,14 +1,15 @@
 -- Words that begin with a fixed word, read as a command.
-use Rattle.std.proofs.Common.{◌≡◌, ◌≢◌, ℕ, suc, ◌+◌, max, cond, sym, ◌∙◌, Result, Ok, Err, ◌-◌, ◌<◌, ◌≤◌, Bool, true, false, List, [], ◌∷◌, length, get_or, take, drop, String, refl, arith}
-use Rattle.std.specs.Prelude.{codes}
+use Rattle.std.proofs.Common.{◌≡◌, ◌≢◌, ℕ, zero, suc, ◌+◌, max, cond, sym, ap, subst, ◌∙◌, Result, Ok, Err, ◌-◌, ◌<◌, ◌≤◌, Bool, true, false, List, [], ◌∷◌, ◌++◌, length, get_or, take, drop, replicate, String, Option, None, Some, refl, arith}
+use Rattle.std.specs.Prelude.{codes, slice_index_or, unwrap_or, fold}
 use Rattle.std.specs.String.{string_bytes}
 use Rattle.std.specs.Str.{bytes_eq}
 use Rattle.std.proofs.lemmas.List.{take_all}
 use Rattle.std.proofs.lemmas.Slice.Eq.{bytes_eq-Decides}
-use Rattle.dc_cli.specs.Forms.{Slot, name, number, is_name, texts, begun, is_form, longest_begun}
-use Rattle.dc_cli.specs.Commands.{workers_slots, said, ReadsAs, ReadsAsReplay, ReadsAsWorkers, ReadsAsCount}
+use Rattle.dc_spec.specs.Limits.{most_stations}
+use Rattle.dc_cli.specs.Forms.{Slot, literal, name, number, number_between, fits, keygen_slots, seeds_slots, workers_slots, most_words_of, stations_in, words_slots, stations_slots, trial_slots, is_name, texts, begun, is_form, longest_begun}
+use Rattle.dc_cli.specs.Commands.{said, SpellsWords, ReadsAs, ReadsAsFile, ReadsAsKeygen, ReadsAsMigrate, ReadsAsLogs, ReadsAsReplay, ReadsAsTrial, ReadsAsStations, ReadsAsWords, FitsNot, ReadsAsWorkers, ReadsAsCount}
 use Rattle.dc_cli.specs.declared.command.Command.{Command}
-use Rattle.dc_cli.specs.declared.command.Command.TheVariants.{Sum, Keygen, KeygenSeeds, Migrate, Replay, Logs}
+use Rattle.dc_cli.specs.declared.command.Command.TheVariants.{Sum, Keygen, KeygenSeeds, Migrate, Replay, Logs, Trial}
 
 -- the first word and the others
 pub texts-front : {A : Type 0} (xs : List (String A)) (d : String A) → 1 ≤ length xs → texts xs ≡ string_bytes (get_or xs 0 d) ∷ texts (take (length xs - 1) (drop 1 xs))
@@ -27,14 +28,15 @@ texts_differ word due other = not_true (bytes_eq word due) (λ same. other ((byt
 
 -- words that begin with another word are not a form
 pub other_word : (verb : List ℕ) (rest : List (List ℕ)) → verb ≢ codes "sum" → verb ≢ codes "keygen" → verb ≢ codes "migrate" → verb ≢ codes "replay" → verb ≢ codes "logs"
-    → (is_form (verb ∷ rest) ≡ false) × (0 ≡ longest_begun (verb ∷ rest))
-other_word verb rest not_sum not_keygen not_migrate not_replay not_logs =
+    → verb ≢ codes "trial" → (is_form (verb ∷ rest) ≡ false) × (0 ≡ longest_begun (verb ∷ rest))
+other_word verb rest not_sum not_keygen not_migrate not_replay not_logs not_trial =
     let sum = texts_differ verb (codes "sum") not_sum in
     let keygen = texts_differ verb (codes "keygen") not_keygen in
     let migrate = texts_differ verb (codes "migrate") not_migrate in
     let replay = texts_differ verb (codes "replay") not_replay in
     let logs = texts_differ verb (codes "logs") not_logs in
-    (rw (sum, keygen, migrate, replay, logs) refl, rw (sum, keygen, migrate, replay, logs) refl)
+    let trial = texts_differ verb (codes "trial") not_trial in
+    (rw (sum, keygen, migrate, replay, logs, trial) refl, rw (sum, keygen, migrate, replay, logs, trial) refl)
 
 -- an empty command line is not a form
 pub no_words : {A : Type 0} (xs : List (String A)) → length xs < 1 → (is_form (texts xs) ≡ false) × (0 ≡ longest_begun (texts xs))
@@ -52,13 +54,71 @@ pub same_text : (word due : List ℕ) → bytes_eq word due ≡ true → word �
 same_text word due test = (bytes_eq-Decides word due).0 test
 
 -- a form that begins with another one is begun as far
-begun_further : (words : List (List ℕ)) (slots : List Slot) → max (max (max 0 (suc (begun (name ∷ []) words))) (suc (begun (name ∷ slots) words))) 0 ≡ 1 + begun (name ∷ slots) words
-begun_further [] slots = refl
-begun_further (word ∷ words) slots = further (is_name word) (begun slots words)
+begun_more : (slots more : List Slot) (words : List (List ℕ)) → begun slots words ≤ begun (slots ++ more) words
+begun_more [] more words = omega arith
+begun_more (slot ∷ slots) more [] = omega arith
+begun_more (slot ∷ slots) more (word ∷ words) = further (fits slot word) (begun slots words) (begun (slots ++ more) words) (begun_more slots more words)
   where
-    further : (b : Bool) (n : ℕ) → max (max (max 0 (suc (cond b 1 0))) (suc (cond b (suc n) 0))) 0 ≡ 1 + cond b (suc n) 0
-    further true n = omega arith
-    further false n = refl
+    further : (b : Bool) (m n : ℕ) → m ≤ n → cond b (suc m) 0 ≤ cond b (suc n) 0
+    further true m n le = omega (arith, le)
+    further false m n le = omega arith
+
+-- forms that are not begun
+zeros : (k n : ℕ) → fold max n (replicate k 0) ≡ n
+zeros zero n = refl
+zeros (suc k) n = zeros k (max n 0) ∙ (let e : max n 0 ≡ n = omega arith in e)
+
+-- of one form, or of two of which one begins with the other, and others that are not begun
+as_far : (k n : ℕ) → fold max (max 0 (suc n)) (replicate k 0) ≡ 1 + n
+as_far k n = zeros k (max 0 (suc n)) ∙ (let e : max 0 (suc n) ≡ 1 + n = omega arith in e)
+
+as_far_of_two : (k m n : ℕ) → m ≤ n → fold max (max (max 0 (suc m)) (suc n)) (replicate k 0) ≡ 1 + n
+as_far_of_two k m n le = zeros k (max (max 0 (suc m)) (suc n)) ∙ (let e : max (max 0 (suc m)) (suc n) ≡ 1 + n = omega (arith, le) in e)
+
+-- the words after `sum`, read as its file, make the command
+pub ReadsAs-sum : (words : List (List ℕ)) (r : Result Command ℕ) → ReadsAsFile words r → ReadsAs (codes "sum" ∷ words) r
+ReadsAs-sum words (Ok (Sum file)) p = (ap (λ (ws : List (List ℕ)). codes "sum" ∷ ws) p.0, p.1)
+ReadsAs-sum words (Ok (Keygen seed net target)) p = absurd p
+ReadsAs-sum words (Ok (KeygenSeeds seed net target)) p = absurd p
+ReadsAs-sum words (Ok (Migrate keys target)) p = absurd p
+ReadsAs-sum words (Ok (Replay net workers)) p = absurd p
+ReadsAs-sum words (Ok (Logs net)) p = absurd p
+ReadsAs-sum words (Ok (Trial seed stations count workers)) p = absurd p
+ReadsAs-sum words (Err place) p = (rw p.0 refl, p.1 ∙ sym (as_far 8 (begun (name ∷ []) words)))
+
+-- the words after `keygen`, read as its seed, its names and its flag, make the command
+pub ReadsAs-keygen : (words : List (List ℕ)) (r : Result Command ℕ) → ReadsAsKeygen words r → ReadsAs (codes "keygen" ∷ words) r
+ReadsAs-keygen words (Ok (Keygen seed net target)) p = (words, refl, p)
+ReadsAs-keygen words (Ok (KeygenSeeds seed net target)) p = (words, refl, p)
+ReadsAs-keygen words (Ok (Sum file)) p = absurd p
+ReadsAs-keygen words (Ok (Migrate keys target)) p = absurd p
+ReadsAs-keygen words (Ok (Replay net workers)) p = absurd p
+ReadsAs-keygen words (Ok (Logs net)) p = absurd p
+ReadsAs-keygen words (Ok (Trial seed stations count workers)) p = absurd p
+ReadsAs-keygen words (Err place) p =
+    (rw (p.0, p.1) refl, p.2 ∙ sym (as_far_of_two 6 (begun keygen_slots words) (begun seeds_slots words) (begun_more keygen_slots (literal (codes "--seeds") ∷ []) words)))
+
+-- the words after `migrate`, read as its names, make the command
+pub ReadsAs-migrate : (words : List (List ℕ)) (r : Result Command ℕ) → ReadsAsMigrate words r → ReadsAs (codes "migrate" ∷ words) r
+ReadsAs-migrate words (Ok (Migrate keys target)) p = (ap (λ (ws : List (List ℕ)). codes "migrate" ∷ ws) p.0, p.1, p.2)
+ReadsAs-migrate words (Ok (Sum file)) p = absurd p
+ReadsAs-migrate words (Ok (Keygen seed net target)) p = absurd p
+ReadsAs-migrate words (Ok (KeygenSeeds seed net target)) p = absurd p
+ReadsAs-migrate words (Ok (Replay net workers)) p = absurd p
+ReadsAs-migrate words (Ok (Logs net)) p = absurd p
+ReadsAs-migrate words (Ok (Trial seed stations count workers)) p = absurd p
+ReadsAs-migrate words (Err place) p = (rw p.0 refl, p.1 ∙ sym (as_far 5 (begun (name ∷ name ∷ []) words)))
+
+-- the words after `logs`, read as its name, make the command
+pub ReadsAs-logs : (words : List (List ℕ)) (r : Result Command ℕ) → ReadsAsLogs words r → ReadsAs (codes "logs" ∷ words) r
+ReadsAs-logs words (Ok (Logs net)) p = (ap (λ (ws : List (List ℕ)). codes "logs" ∷ ws) p.0, p.1)
+ReadsAs-logs words (Ok (Sum file)) p = absurd p
+ReadsAs-logs words (Ok (Keygen seed net target)) p = absurd p
+ReadsAs-logs words (Ok (KeygenSeeds seed net target)) p = absurd p
+ReadsAs-logs words (Ok (Migrate keys target)) p = absurd p
+ReadsAs-logs words (Ok (Replay net workers)) p = absurd p
+ReadsAs-logs words (Ok (Trial seed stations count workers)) p = absurd p
+ReadsAs-logs words (Err place) p = (rw p.0 refl, p.1 ∙ sym (as_far 2 (begun (name ∷ []) words)))
 
 -- the words after `replay`, read as its name and its number of workers, make the command
 pub ReadsAs-replay : (words : List (List ℕ)) (r : Result Command ℕ) → ReadsAsReplay words r → ReadsAs (codes "replay" ∷ words) r
@@ -68,16 +128,100 @@ ReadsAs-replay words (Ok (Keygen seed net target)) p = absurd p
 ReadsAs-replay words (Ok (KeygenSeeds seed net target)) p = absurd p
 ReadsAs-replay words (Ok (Migrate keys target)) p = absurd p
 ReadsAs-replay words (Ok (Logs net)) p = absurd p
-ReadsAs-replay words (Err place) p = (rw (p.0, p.1) refl, p.2 ∙ sym (begun_further words workers_slots))
+ReadsAs-replay words (Ok (Trial seed stations count workers)) p = absurd p
+ReadsAs-replay words (Err place) p = (rw (p.0, p.1) refl, p.2 ∙ sym (as_far_of_two 3 (begun (name ∷ []) words) (begun (name ∷ workers_slots) words) (begun_more (name ∷ []) workers_slots words)))
+
+-- the words after `trial`, read as its numbers, make the command
+pub ReadsAs-trial : (words : List (List ℕ)) (r : Result Command ℕ) → ReadsAsTrial words r → ReadsAs (codes "trial" ∷ words) r
+ReadsAs-trial words (Ok (Trial seed stations count workers)) p = (words, refl, p)
+ReadsAs-trial words (Ok (Sum file)) p = absurd p
+ReadsAs-trial words (Ok (Keygen seed net target)) p = absurd p
+ReadsAs-trial words (Ok (KeygenSeeds seed net target)) p = absurd p
+ReadsAs-trial words (Ok (Migrate keys target)) p = absurd p
+ReadsAs-trial words (Ok (Replay net workers)) p = absurd p
+ReadsAs-trial words (Ok (Logs net)) p = absurd p
+ReadsAs-trial words (Err place) p =
+    let slots = trial_slots (slice_index_or words 1 []) in
+    (rw (p.0, p.1) refl, p.2 ∙ sym (as_far_of_two 0 (begun slots words) (begun (slots ++ workers_slots) words) (begun_more slots workers_slots words)))
+
+one_less : (k n : ℕ) → suc k + n ≡ k + suc n
+one_less k n = omega arith
+
+-- the first word does not fit
+pub FitsNot-first : (before : ℕ) (slot : Slot) (slots : List Slot) (word : List ℕ) (words : List (List ℕ)) → fits slot word ≡ false → FitsNot before (slot ∷ slots) (word ∷ words) before
+FitsNot-first before slot slots word words e = (rw e refl, rw e refl, rw e (omega arith))
+
+-- as where it is no number within its limits
+pub FitsNot-number : (before low high : ℕ) (slots : List Slot) (word : List ℕ) (words : List (List ℕ)) → number_between low high word ≡ None
+    → FitsNot before (number low high ∷ slots) (word ∷ words) before
+FitsNot-number before low high slots word words e = FitsNot-first before (number low high) slots word words (rw e refl)
+
+-- the word after `trial` is no seed, or the one after its seed is no number of stations
+pub no_seed : {A : Type 0} (xs : List (String A)) (d : String A) → 1 ≤ length xs → number_between 0 4294967295 (string_bytes (get_or xs 0 d)) ≡ None → ReadsAsTrial (texts xs) (Err 1)
+no_seed [] d le e = absurd (omega arith)
+no_seed (x ∷ xs) d le e = FitsNot-number 1 0 4294967295 (stations_slots (slice_index_or (texts xs) 0 [])) (string_bytes x) (texts xs) e
+
+pub no_stations : {A : Type 0} (xs : List (String A)) (d : String A) (seed : ℕ) → 1 ≤ length xs → number_between 1 most_stations (string_bytes (get_or xs 0 d)) ≡ None
+    → ReadsAsStations seed (texts xs) (Err 2)
+no_stations [] d seed le e = absurd (omega arith)
+no_stations (x ∷ xs) d seed le e = FitsNot-number 2 1 most_stations (words_slots (stations_in (string_bytes x))) (string_bytes x) (texts xs) e
+
+-- the first word fits, and those after it do not
+pub FitsNot-later : (before : ℕ) (slot : Slot) (slots : List Slot) (word : List ℕ) (words : List (List ℕ)) (place : ℕ) → fits slot word ≡ true
+    → FitsNot (suc before) slots words place → FitsNot before (slot ∷ slots) (word ∷ words) place
+FitsNot-later before slot slots word words place e p = (rw (e, p.0) refl, rw (e, p.1) refl, rw e (p.2 ∙ one_less before (begun (slots ++ workers_slots) words)))
+
+-- the words after the seed of a trial, and the seed
+pub ReadsAsTrial-stations : (digits : List ℕ) (words : List (List ℕ)) (seed : ℕ) (r : Result Command ℕ) → number_between 0 4294967295 digits ≡ Some seed
+    → ReadsAsStations seed words r → ReadsAsTrial (digits ∷ words) r
+ReadsAsTrial-stations digits words seed (Ok (Trial seen stations count workers)) e p =
+    let q = p.1 in
+    let after = q.words_after in
+    record {
+      of_seed = digits;
+      of_stations = q.of_stations;
+      of_count = after.of_count;
+      rest = after.rest;
+      words_are = rw (q.words_are, after.words_are) refl;
+      seed_is = e ∙ ap Some (sym p.0);
+      stations_are = q.stations_are;
+      count_is = after.count_is;
+      workers_are = after.workers_are;
+    }
+ReadsAsTrial-stations digits words seed (Ok (Sum file)) e p = absurd p
+ReadsAsTrial-stations digits words seed (Ok (Keygen other net target)) e p = absurd p
+ReadsAsTrial-stations digits words seed (Ok (KeygenSeeds other net target)) e p = absurd p
+ReadsAsTrial-stations digits words seed (Ok (Migrate keys target)) e p = absurd p
+ReadsAsTrial-stations digits words seed (Ok (Replay net workers)) e p = absurd p
+ReadsAsTrial-stations digits words seed (Ok (Logs net)) e p = absurd p
+ReadsAsTrial-stations digits words seed (Err place) e p = FitsNot-later 1 (number 0 4294967295) (stations_slots (slice_index_or words 0 [])) digits words place (rw e refl) p
+
+-- the words after the number of stations, and this number
+pub ReadsAsStations-words : (digits : List ℕ) (words : List (List ℕ)) (seed stations : ℕ) (r : Result Command ℕ) → number_between 1 most_stations digits ≡ Some stations
+    → ReadsAsWords seed stations words r → ReadsAsStations seed (digits ∷ words) r
+ReadsAsStations-words digits words seed stations (Ok (Trial seen of count workers)) e p =
+    let W : ℕ → Type 0 = λ n. SpellsWords words n count workers in
+    (p.0, record { of_stations = digits; rest = words; words_are = refl; stations_are = e ∙ ap Some (sym p.1); words_after = subst W (sym p.1) p.2 })
+ReadsAsStations-words digits words seed stations (Ok (Sum file)) e p = absurd p
+ReadsAsStations-words digits words seed stations (Ok (Keygen other net target)) e p = absurd p
+ReadsAsStations-words digits words seed stations (Ok (KeygenSeeds other net target)) e p = absurd p
+ReadsAsStations-words digits words seed stations (Ok (Migrate keys target)) e p = absurd p
+ReadsAsStations-words digits words seed stations (Ok (Replay net workers)) e p = absurd p
+ReadsAsStations-words digits words seed stations (Ok (Logs net)) e p = absurd p
+ReadsAsStations-words digits words seed stations (Err place) e p =
+    FitsNot-later 2 (number 1 most_stations) (words_slots (stations_in digits)) digits words place (rw e refl)
+    (let there : stations_in digits ≡ stations = ap (λ (o : Option ℕ). unwrap_or o 1) e in
+    let F : ℕ → Type 0 = λ n. FitsNot 3 (words_slots n) words place in
+    subst F (sym there) p)
 
 -- the words after `--workers`, read as a number, are a number of workers
-pub ReadsAsWorkers-count : (option : List ℕ) (words : List (List ℕ)) (r : Result ℕ ℕ) → true ≡ bytes_eq option (codes "--workers") → ReadsAsCount words r
-    → ReadsAsWorkers (option ∷ words) r
-ReadsAsWorkers-count option words (Ok workers) test p =
+pub ReadsAsWorkers-count : (option : List ℕ) (words : List (List ℕ)) (before : ℕ) (r : Result ℕ ℕ) → true ≡ bytes_eq option (codes "--workers")
+    → ReadsAsCount (before + 1) words r → ReadsAsWorkers before (option ∷ words) r
+ReadsAsWorkers-count option words before (Ok workers) test p =
     let e : option ≡ codes "--workers" = (bytes_eq-Decides option (codes "--workers")).0 (sym test) in said p.0 (rw (e, p.1) refl) p.2
-ReadsAsWorkers-count option words (Err place) test p =
+ReadsAsWorkers-count option words before (Err place) test p =
     let e : option ≡ codes "--workers" = (bytes_eq-Decides option (codes "--workers")).0 (sym test) in
-    rw e (refl, p.0, p.1 ∙ one_less (begun (number 1 64 ∷ []) words))
+    rw e (refl, p.0, p.1 ∙ one_more before (begun (number 1 64 ∷ []) words))
   where
-    one_less : (n : ℕ) → 3 + n ≡ 2 + suc n
-    one_less n = omega arith
+    one_more : (k n : ℕ) → k + 1 + n ≡ k + suc n
+    one_more k n = omega arith

@@ -1,8 +1,11 @@
 pub mod CommandLemmas
+pub mod SpelledLemmas
 pub mod ShelfLemmas
 pub mod MakingLemmas
 pub mod ReplayLemmas
+pub mod TotalLemmas
 pub mod TrialLemmas
 pub mod RanLemmas
 pub mod PromiseLemmas
+pub mod TheoremLemmas
 mod Rows

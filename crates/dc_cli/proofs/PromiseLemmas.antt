@@ -12,6 +12,7 @@ use Rattle.dc_formats.specs.KeyFile.{keys_bytes}
 use Rattle.dc_formats.specs.SeedFile.{seeds_bytes}
 use Rattle.dc_formats.proofs.Sizes.{transcript_size}
 use Rattle.dc_edge.specs.Shelf.{IsHeldAbove, FailsUntold, rewritten}
+use Rattle.dc_edge.proofs.PutLemmas.{grown-nothing}
 use Rattle.dc_keyfile.specs.Generator.{generated_keys, seeds_of}
 use Rattle.dc_keyfile.specs.Reading.{keys_from_bytes}
 use Rattle.dc_keyfile.specs.declared.fault.KeyFault.{KeyFault}
@@ -23,148 +24,24 @@ use Rattle.dc_run_texts.specs.Logs.{logs_text}
 use Rattle.dc_superpose.specs.Reading.{transcript_of}
 use Rattle.dc_superpose.specs.declared.fault.TranscriptFault.{TranscriptFault}
 use Rattle.dc_cli.specs.Forms.{is_name, is_form, longest_begun}
-use Rattle.dc_cli.specs.Commands.{Task, sum, keygen, keygen_seeds, migrate, replay, logs, SpellsKeygen, SpellsWorkers, unsaid, said, Spells}
+use Rattle.dc_cli.specs.Commands.{Task, sum, keygen, keygen_seeds, migrate, replay, logs, trial, SpellsKeygen, SpellsTrial, SpellsWorkers, unsaid, said, Spells}
 use Rattle.dc_cli.specs.Summing.{SummedFile, SumRan, Refused}
 use Rattle.dc_cli.specs.Making.{Making, MakesOf}
 use Rattle.dc_cli.specs.Keygen.{keys_for, keygen_making}
 use Rattle.dc_cli.specs.KeygenSeeds.{seeds_for, seeds_making}
 use Rattle.dc_cli.specs.Migrating.{pads_for, migrate_making}
 use Rattle.dc_cli.specs.Ran.{Ran, CommandRan}
-use Rattle.dc_cli.specs.Promises.{Call, AsksFor, RefusesOtherWords, Leaves, KeepsFiles, AsksInOrder, PrintsOnlyWhenDone, PrintsSums, HasLimit, TellsName, TellsTheLast, MissesTheAbsent, RefusesTheLong, TellsTheFault, RefusesTheMalformed, HasCauses, Completes, MakesFile, making_of, MakesFiles, WritesKeys, WritesSeeds, WritesPads, PrintsView, PrintsLogs, RunsNets, RunsLogs}
+use Rattle.dc_cli.specs.Promises.{Call, AsksFor, RefusesOtherWords, Leaves, KeepsFiles, AsksInOrder, PrintsOnlyWhenDone, PrintsSums, HasLimit, TellsName, TellsTheLast, MissesTheAbsent, RefusesTheLong, TellsTheFault, RefusesTheMalformed, HasCauses, Completes, MakesFile, making_of, MakesFiles, WritesKeys, WritesSeeds, WritesPads, PrintsView, PrintsLogs, RunsNets, RunsLogs, PrintsSummary, RunsTrials}
 use Rattle.dc_cli.specs.declared.outcome.FileFault.{FileFault}
 use Rattle.dc_cli.specs.declared.outcome.FileFault.TheVariants.{Transcript, Keys, Manifest, Stream, Script}
 use Rattle.dc_cli.specs.declared.outcome.Outcome.{Outcome}
 use Rattle.dc_cli.specs.declared.outcome.Outcome.TheVariants.{Done, Usage, Missing, TooLong, Malformed, Disagree, ShelfFault, SinkFault, NoMemory}
 use Rattle.dc_cli.proofs.ShelfLemmas.{told_bytes, held_is_there, held_within, AskedUpTo, asked_none, asked_first, LastAsked, last_is}
 use Rattle.dc_cli.proofs.ReplayLemmas.{NetRan-kept, NetRan-asked, NetRan-asked_all, NetRan-silent, NetRan-missing, NetRan-long, NetRan-transcript, NetRan-last, NetRan-shelf_rose, NetRan-sink_rose, NetRan-prints, NetRan-completes}
+use Rattle.dc_cli.proofs.SpelledLemmas.{not_both, same_command}
+use Rattle.dc_cli.proofs.TrialLemmas.{TrialRan-silent, TrialRan-prints, TrialRan-sink_rose, TrialRan-completes, TrialRan-untold, counts_all}
+use Rattle.dc_cli.proofs.RanLemmas.{Spells-runnable}
 use Rattle.dc_cli.proofs.MakingLemmas.{MakesOf-leaves, MakesOf-asked, MakesOf-asked_all, MakesOf-last, MakesOf-rose, MakesOf-missing, MakesOf-long, MakesOf-written, MakesOf-fault, MakesOf-completes, MakesOf-refuses}
-
--- a name as a test of its truth
-name_is : (b : Bool) → IsTrue b → b ≡ true
-name_is true h = refl
-name_is false h = h
-
-replay_form : (words : List (List ℕ)) (net : List ℕ) (workers : ℕ) (rest : List (List ℕ)) {after : List (List ℕ)} → words ≡ codes "replay" ∷ after → after ≡ net ∷ rest
-    → is_name net ≡ true → SpellsWorkers rest workers → is_form words ≡ true
-replay_form words net workers rest a b named (unsaid none one) = rw (a, b, none, named) refl
-replay_form words net workers rest a b named (said digits are number) = rw (a, b, are, named, number) refl
-
--- the words of a command are a form
-Spells-form : (words : List (List ℕ)) (command : Task) → Spells words command → is_form words ≡ true
-Spells-form words (sum file) p = let named : is_name file ≡ true = name_is (is_name file) p.1 in rw (p.0, named) refl
-Spells-form words (keygen seed net target) p =
-    let net_named : is_name net ≡ true = name_is (is_name net) p.2.net_is in
-    let target_named : is_name target ≡ true = name_is (is_name target) p.2.target_is in
-    rw (p.1, p.2.words_are, p.2.seed_is, net_named, target_named) refl
-Spells-form words (keygen_seeds seed net target) p =
-    let net_named : is_name net ≡ true = name_is (is_name net) p.2.net_is in
-    let target_named : is_name target ≡ true = name_is (is_name target) p.2.target_is in
-    rw (p.1, p.2.words_are, p.2.seed_is, net_named, target_named) refl
-Spells-form words (migrate keys target) p =
-    let keys_named : is_name keys ≡ true = name_is (is_name keys) p.1 in
-    let target_named : is_name target ≡ true = name_is (is_name target) p.2 in
-    rw (p.0, keys_named, target_named) refl
-Spells-form words (replay net workers) p =
-    let q = p.2 in
-    replay_form words net workers q.rest p.1 q.words_are (name_is (is_name net) q.net_is) q.workers_are
-Spells-form words (logs net) p = let named : is_name net ≡ true = name_is (is_name net) p.1 in rw (p.0, named) refl
-
-not_both : (words : List (List ℕ)) (command : Task) → Spells words command → is_form words ≡ false → ⊥
-not_both words command p refused = let is = Spells-form words command p in absurd cc
-
--- the words of `keygen` spell one seed, two names and the words after these
-record SameKeygen (seed net target : List ℕ) (flags : List (List ℕ)) (seed' net' target' : List ℕ) (flags' : List (List ℕ)) : Type 0 where
-  seed_is : seed ≡ seed'
-  net_is : net ≡ net'
-  target_is : target ≡ target'
-  flags_are : flags ≡ flags'
-
-same_keygen : (words : List (List ℕ)) (seed net target : List ℕ) (flags : List (List ℕ)) (seed' net' target' : List ℕ) (flags' : List (List ℕ)) → SpellsKeygen words seed net target flags
-    → SpellsKeygen words seed' net' target' flags' → SameKeygen seed net target flags seed' net' target' flags'
-same_keygen words seed net target flags seed' net' target' flags' p q =
-    let a = p.words_are in
-    let b = q.words_are in
-    let a_seed = p.seed_is in
-    let b_seed = q.seed_is in
-    record { seed_is = cc; net_is = cc; target_is = cc; flags_are = cc }
-
--- the words after the first one, where the first is the same
-same_rest : (words rest rest' : List (List ℕ)) (first : List ℕ) → words ≡ first ∷ rest → words ≡ first ∷ rest' → rest ≡ rest'
-same_rest words rest rest' first a b = cc
-
-same_workers : (words : List (List ℕ)) (n m : ℕ) → SpellsWorkers words n → SpellsWorkers words m → n ≡ m
-same_workers words n m (unsaid none one) (unsaid none' one') = one ∙ sym one'
-same_workers words n m (unsaid none one) (said digits are number) = absurd cc
-same_workers words n m (said digits are number) (unsaid none one) = absurd cc
-same_workers words n m (said digits are number) (said digits' are' number') = cc
-
--- words begin with one word
-first_word : List (List ℕ) → List ℕ
-first_word [] = []
-first_word (word ∷ words) = word
-
-verbs_differ : (words front after : List (List ℕ)) (verb other : List ℕ) → words ≡ verb ∷ front → words ≡ other ∷ after → bytes_eq verb other ≡ false → ⊥
-unfolding first_word
-verbs_differ words front after verb other a b differ =
-    let same : verb ≡ other = ap first_word (sym a ∙ b) in
-    let test : bytes_eq verb other ≡ true = (bytes_eq-Decides verb other).1 same in
-    absurd cc
-
--- the words spell one command
-same_command : (words : List (List ℕ)) (a b : Task) → Spells words a → Spells words b → a ≡ b
-same_command words (sum file) (sum other) p q = let a = p.0 in let b = q.0 in let same : file ≡ other = cc in ap sum same
-same_command words (sum file) (keygen seed net target) p q = let a = p.0 in let b = q.1 in absurd cc
-same_command words (sum file) (keygen_seeds seed net target) p q = let a = p.0 in let b = q.1 in absurd cc
-same_command words (sum file) (migrate keys target) p q = let a = p.0 in let b = q.0 in absurd cc
-same_command words (keygen seed net target) (sum file) p q = let a = p.1 in let b = q.0 in absurd cc
-same_command words (keygen seed net target) (keygen seed' net' target') p q =
-    let same = same_keygen q.0 seed net target [] seed' net' target' [] (rw (← same_rest words p.0 q.0 (codes "keygen") p.1 q.1) p.2) q.2 in
-    λ i. keygen (same.seed_is i) (same.net_is i) (same.target_is i)
-same_command words (keygen seed net target) (keygen_seeds seed' net' target') p q =
-    let same = same_keygen q.0 seed net target [] seed' net' target' (codes "--seeds" ∷ []) (rw (← same_rest words p.0 q.0 (codes "keygen") p.1 q.1) p.2) q.2 in
-    let e = same.flags_are in absurd cc
-same_command words (keygen seed net target) (migrate keys other) p q = let a = p.1 in let b = q.0 in absurd cc
-same_command words (keygen_seeds seed net target) (sum file) p q = let a = p.1 in let b = q.0 in absurd cc
-same_command words (keygen_seeds seed net target) (keygen seed' net' target') p q =
-    let same = same_keygen q.0 seed net target (codes "--seeds" ∷ []) seed' net' target' [] (rw (← same_rest words p.0 q.0 (codes "keygen") p.1 q.1) p.2) q.2 in
-    let e = same.flags_are in absurd cc
-same_command words (keygen_seeds seed net target) (keygen_seeds seed' net' target') p q =
-    let same = same_keygen q.0 seed net target (codes "--seeds" ∷ []) seed' net' target' (codes "--seeds" ∷ []) (rw (← same_rest words p.0 q.0 (codes "keygen") p.1 q.1) p.2) q.2 in
-    λ i. keygen_seeds (same.seed_is i) (same.net_is i) (same.target_is i)
-same_command words (keygen_seeds seed net target) (migrate keys other) p q = let a = p.1 in let b = q.0 in absurd cc
-same_command words (migrate keys target) (sum file) p q = let a = p.0 in let b = q.0 in absurd cc
-same_command words (migrate keys target) (keygen seed net other) p q = let a = p.0 in let b = q.1 in absurd cc
-same_command words (migrate keys target) (keygen_seeds seed net other) p q = let a = p.0 in let b = q.1 in absurd cc
-same_command words (migrate keys target) (migrate keys' target') p q = let a = p.0 in let b = q.0 in cc
-same_command words (sum file) (replay net workers) p q = absurd (verbs_differ words _ _ (codes "sum") (codes "replay") p.0 q.1 refl)
-same_command words (replay net workers) (sum file) p q = absurd (verbs_differ words _ _ (codes "replay") (codes "sum") p.1 q.0 refl)
-same_command words (keygen seed net target) (replay net' workers) p q = absurd (verbs_differ words _ _ (codes "keygen") (codes "replay") p.1 q.1 refl)
-same_command words (replay net workers) (keygen seed net' target) p q = absurd (verbs_differ words _ _ (codes "replay") (codes "keygen") p.1 q.1 refl)
-same_command words (replay net workers) (replay net' workers') p q =
-    let a = p.1 in
-    let b = q.1 in
-    let a_rest = p.2.words_are in
-    let b_rest = q.2.words_are in
-    let rests : q.2.rest ≡ p.2.rest = cc in
-    let nets : net ≡ net' = cc in
-    let W : List (List ℕ) → Type 0 = λ ws. SpellsWorkers ws workers' in
-    let counts : workers ≡ workers' = same_workers p.2.rest workers workers' p.2.workers_are (subst W rests q.2.workers_are) in
-    cc
-same_command words (keygen_seeds seed net target) (replay net' workers) p q = absurd (verbs_differ words _ _ (codes "keygen") (codes "replay") p.1 q.1 refl)
-same_command words (replay net workers) (keygen_seeds seed net' target) p q = absurd (verbs_differ words _ _ (codes "replay") (codes "keygen") p.1 q.1 refl)
-same_command words (migrate keys target) (replay net' workers) p q = absurd (verbs_differ words _ _ (codes "migrate") (codes "replay") p.0 q.1 refl)
-same_command words (replay net workers) (migrate keys target) p q = absurd (verbs_differ words _ _ (codes "replay") (codes "migrate") p.1 q.0 refl)
-same_command words (sum file) (logs net') p q = absurd (verbs_differ words _ _ (codes "sum") (codes "logs") p.0 q.0 refl)
-same_command words (logs net) (sum file) p q = absurd (verbs_differ words _ _ (codes "logs") (codes "sum") p.0 q.0 refl)
-same_command words (keygen seed net target) (logs net') p q = absurd (verbs_differ words _ _ (codes "keygen") (codes "logs") p.1 q.0 refl)
-same_command words (logs net) (keygen seed net' target) p q = absurd (verbs_differ words _ _ (codes "logs") (codes "keygen") p.0 q.1 refl)
-same_command words (keygen_seeds seed net target) (logs net') p q = absurd (verbs_differ words _ _ (codes "keygen") (codes "logs") p.1 q.0 refl)
-same_command words (logs net) (keygen_seeds seed net' target) p q = absurd (verbs_differ words _ _ (codes "logs") (codes "keygen") p.0 q.1 refl)
-same_command words (migrate keys target) (logs net') p q = absurd (verbs_differ words _ _ (codes "migrate") (codes "logs") p.0 q.0 refl)
-same_command words (logs net) (migrate keys target) p q = absurd (verbs_differ words _ _ (codes "logs") (codes "migrate") p.0 q.0 refl)
-same_command words (replay net workers) (logs net') p q = absurd (verbs_differ words _ _ (codes "replay") (codes "logs") p.1 q.0 refl)
-same_command words (logs net) (replay net' workers) p q = absurd (verbs_differ words _ _ (codes "logs") (codes "replay") p.0 q.1 refl)
-same_command words (logs net) (logs net') p q = let a = p.0 in let b = q.0 in let same : net ≡ net' = cc in ap logs same
 
 refused_words : (words : List (List ℕ)) (s s' : ShelfState) (o o' : SinkState) (outcome : Outcome) → Ran words s s' o o' outcome → is_form words ≡ false → outcome ≡ Usage (longest_begun words)
 refused_words words s s' o o' (Usage place) ran refused = ap Usage ran.place_is
@@ -231,6 +108,7 @@ CommandRan-leaves (keygen_seeds seed net target) s s' o o' outcome ran = MakesOf
 CommandRan-leaves (migrate keys target) s s' o o' outcome ran = MakesOf-leaves (migrate_making keys target) s s' outcome ran.1
 CommandRan-leaves (replay net workers) s s' o o' outcome ran = NetRan-kept view_text net s s' o o' outcome ran
 CommandRan-leaves (logs net) s s' o o' outcome ran = NetRan-kept logs_text net s s' o o' outcome ran
+CommandRan-leaves (trial seed stations count workers) s s' o o' outcome ran = ap (λ (x : ShelfState). x.holds) ran.0
 
 kept_unread : (words : List (List ℕ)) (s s' : ShelfState) (o o' : SinkState) (outcome : Outcome) → is_form words ≡ false → Ran words s s' o o' outcome → s'.holds ≡ s.holds
 kept_unread words s s' o o' (Usage place) refused ran = ap (λ (x : ShelfState). x.holds) ran.shelf_stays
@@ -244,6 +122,7 @@ CommandRan-asked (keygen_seeds seed net target) s s' o o' outcome ran = (net ∷
 CommandRan-asked (migrate keys target) s s' o o' outcome ran = (keys ∷ target ∷ [], refl, MakesOf-asked (migrate_making keys target) s s' outcome ran.1)
 CommandRan-asked (replay net workers) s s' o o' outcome ran = NetRan-asked view_text net s s' o o' outcome ran
 CommandRan-asked (logs net) s s' o o' outcome ran = NetRan-asked logs_text net s s' o o' outcome ran
+CommandRan-asked (trial seed stations count workers) s s' o o' outcome ran = ([], refl, asked_none [] s s' (ap (λ (x : ShelfState). x.asked) ran.0))
 
 CommandRan-asked_all : (command : Task) (s s' : ShelfState) (o o' : SinkState) → CommandRan command s s' o o' Done
     → (files : List (List ℕ)) × AsksFor s command files × (s'.asked ≡ grown s.asked files)
@@ -253,6 +132,7 @@ CommandRan-asked_all (keygen_seeds seed net target) s s' o o' ran = (net ∷ tar
 CommandRan-asked_all (migrate keys target) s s' o o' ran = (keys ∷ target ∷ [], refl, MakesOf-asked_all (migrate_making keys target) s s' ran.1)
 CommandRan-asked_all (replay net workers) s s' o o' ran = NetRan-asked_all view_text net s s' o o' ran
 CommandRan-asked_all (logs net) s s' o o' ran = NetRan-asked_all logs_text net s s' o o' ran
+CommandRan-asked_all (trial seed stations count workers) s s' o o' ran = ([], refl, ap (λ (x : ShelfState). x.asked) ran.0 ∙ grown-nothing s.asked)
 
 asked_all : (command : Task) (s s' : ShelfState) (o o' : SinkState) (outcome : Outcome) → outcome ≡ Done → CommandRan command s s' o o' outcome
     → (files : List (List ℕ)) × AsksFor s command files × (s'.asked ≡ grown s.asked files)
@@ -275,6 +155,7 @@ CommandRan-silent (keygen_seeds seed net target) s s' o o' outcome not_done not_
 CommandRan-silent (migrate keys target) s s' o o' outcome not_done not_sink p = p.0
 CommandRan-silent (replay net workers) s s' o o' outcome not_done not_sink p = NetRan-silent view_text net s s' o o' outcome not_done not_sink p
 CommandRan-silent (logs net) s s' o o' outcome not_done not_sink p = NetRan-silent logs_text net s s' o o' outcome not_done not_sink p
+CommandRan-silent (trial seed stations count workers) s s' o o' outcome not_done not_sink p = TrialRan-silent seed stations count o o' outcome not_done not_sink p.1
 
 silent : (words : List (List ℕ)) (s s' : ShelfState) (o o' : SinkState) (outcome : Outcome) → (outcome ≡ Done → ⊥) → (outcome ≡ SinkFault → ⊥) → Ran words s s' o o' outcome → o' ≡ o
 silent words s s' o o' (Usage place) not_done not_sink ran = ran.out_stays
@@ -299,6 +180,7 @@ missing_cause (keygen_seeds seed net target) s s' o o' name ran = MakesOf-missin
 missing_cause (migrate keys target) s s' o o' name ran = MakesOf-missing (migrate_making keys target) s s' name ran.1
 missing_cause (replay net workers) s s' o o' name ran = NetRan-missing view_text net name s s' o o' ran
 missing_cause (logs net) s s' o o' name ran = NetRan-missing logs_text net name s s' o o' ran
+missing_cause (trial seed stations count workers) s s' o o' name ran = absurd ran.1
 
 missing : (words : List (List ℕ)) (s s' : ShelfState) (o o' : SinkState) (outcome : Outcome) (name : List ℕ) → outcome ≡ Missing name → Ran words s s' o o' outcome
     → (s.holds name ≡ absent) ⊎ FailsUntold (s.holds name) s.faults s'.faults
@@ -315,6 +197,7 @@ long_cause (keygen_seeds seed net target) s s' o o' name ran = (manifest_limit, 
 long_cause (migrate keys target) s s' o o' name ran = (key_file_limit, (ran.1.0, refl), MakesOf-long (migrate_making keys target) s s' name ran.1)
 long_cause (replay net workers) s s' o o' name ran = NetRan-long view_text net name s s' o o' ran
 long_cause (logs net) s s' o o' name ran = NetRan-long logs_text net name s s' o o' ran
+long_cause (trial seed stations count workers) s s' o o' name ran = absurd ran.1
 
 too_long : (command : Task) (s s' : ShelfState) (o o' : SinkState) (outcome : Outcome) (name : List ℕ) → outcome ≡ TooLong name → CommandRan command s s' o o' outcome
     → (limit : ℕ) × HasLimit s command name limit × (IsHeldAbove (s.holds name) limit ⊎ FailsUntold (s.holds name) s.faults s'.faults)
@@ -345,6 +228,7 @@ fault_cause (keygen_seeds seed net target) s s' o o' name bytes fault told ran =
 fault_cause (migrate keys target) s s' o o' name bytes fault told ran = absurd (no_fault_for_pads (keys_from_bytes ran.1.1.bytes) fault ran.1.1.holds)
 fault_cause (replay net workers) s s' o o' name bytes fault told ran = absurd (NetRan-transcript view_text net name fault s s' o o' ran)
 fault_cause (logs net) s s' o o' name bytes fault told ran = absurd (NetRan-transcript logs_text net name fault s s' o o' ran)
+fault_cause (trial seed stations count workers) s s' o o' name bytes fault told ran = absurd ran.1
 
 malformed : (words : List (List ℕ)) (s s' : ShelfState) (o o' : SinkState) (outcome : Outcome) (name bytes : List ℕ) (fault : TranscriptFault)
     → outcome ≡ Malformed name (Transcript fault) → s.holds name ≡ held bytes → Ran words s s' o o' outcome → Refused bytes fault
@@ -378,6 +262,7 @@ CommandRan-last (keygen_seeds seed net target) s s' o o' outcome name tells p = 
 CommandRan-last (migrate keys target) s s' o o' outcome name tells p = MakesOf-last (migrate_making keys target) s s' outcome name tells p.1
 CommandRan-last (replay net workers) s s' o o' outcome name tells p = NetRan-last view_text net s s' o o' outcome name tells p
 CommandRan-last (logs net) s s' o o' outcome name tells p = NetRan-last logs_text net s s' o o' outcome name tells p
+CommandRan-last (trial seed stations count workers) s s' o o' outcome name tells p = absurd (TrialRan-untold seed stations count o o' outcome name tells p.1)
 
 last_asked : (words : List (List ℕ)) (s s' : ShelfState) (o o' : SinkState) (outcome : Outcome) (name : List ℕ) → TellsName outcome name → Ran words s s' o o' outcome → LastAsked name s s'
 last_asked words s s' o o' (Usage place) name tells ran = elim tells [ inl e ↦ absurd cc | inr other ↦ elim other [ inl e ↦ absurd cc | inr m ↦ let e = m.1 in absurd cc ] ]
@@ -390,6 +275,7 @@ shelf_rose (keygen_seeds seed net target) s s' o o' ran = MakesOf-rose (seeds_ma
 shelf_rose (migrate keys target) s s' o o' ran = MakesOf-rose (migrate_making keys target) s s' ran.1
 shelf_rose (replay net workers) s s' o o' ran = NetRan-shelf_rose view_text net s s' o o' ran
 shelf_rose (logs net) s s' o o' ran = NetRan-shelf_rose logs_text net s s' o o' ran
+shelf_rose (trial seed stations count workers) s s' o o' ran = absurd ran.1
 
 sink_rose : (command : Task) (s s' : ShelfState) (o o' : SinkState) → CommandRan command s s' o o' SinkFault → Rose o.faults o'.faults
 sink_rose (sum file) s s' o o' ran = ran.1.put.answer.1
@@ -398,6 +284,7 @@ sink_rose (keygen_seeds seed net target) s s' o o' ran = absurd ran.1
 sink_rose (migrate keys target) s s' o o' ran = absurd ran.1
 sink_rose (replay net workers) s s' o o' ran = NetRan-sink_rose view_text net s s' o o' ran
 sink_rose (logs net) s s' o o' ran = NetRan-sink_rose logs_text net s s' o o' ran
+sink_rose (trial seed stations count workers) s s' o o' ran = TrialRan-sink_rose seed stations count o o' ran.1
 
 shelf_cause : (words : List (List ℕ)) (s s' : ShelfState) (o o' : SinkState) (outcome : Outcome) → outcome ≡ ShelfFault → Ran words s s' o o' outcome → Rose s.faults s'.faults
 shelf_cause words s s' o o' outcome e ran =
@@ -541,6 +428,7 @@ MakesFiles-ran : (c : Call) (command : Task) (m : Making) → making_of command 
 MakesFiles-ran c (sum file) m e ran = absurd cc
 MakesFiles-ran c (replay net workers) m e ran = absurd cc
 MakesFiles-ran c (logs net) m e ran = absurd cc
+MakesFiles-ran c (trial seed stations count workers) m e ran = absurd cc
 MakesFiles-ran c (keygen seed net target) m e ran = let same : keygen_making seed net target ≡ m = cc in rw (← same) (MakesFile-run c (keygen_making seed net target) ran.0 ran.1)
 MakesFiles-ran c (keygen_seeds seed net target) m e ran = let same : seeds_making seed net target ≡ m = cc in rw (← same) (MakesFile-run c (seeds_making seed net target) ran.0 ran.1)
 MakesFiles-ran c (migrate keys target) m e ran = let same : migrate_making keys target ≡ m = cc in rw (← same) (MakesFile-run c (migrate_making keys target) ran.0 ran.1)
@@ -601,3 +489,14 @@ PrintsLogs-run c ran = λ e net p.
 pub RunsLogs-run : (c : Call) → HasRun c → RunsLogs c
 RunsLogs-run c ran = λ net files made p needed holds is calm_shelf calm_sink.
     NetRan-completes logs_text net c.shelf c.shelf' c.out c.out' c.outcome files made needed holds is calm_shelf calm_sink (HasRun-as c (logs net) p ran)
+
+pub PrintsSummary-run : (c : Call) → HasRun c → PrintsSummary c
+PrintsSummary-run c ran = λ e seed stations count workers p.
+    let P : Outcome → Type 0 = λ x. CommandRan (trial seed stations count workers) c.shelf c.shelf' c.out c.out' x in
+    let did = (subst P e (HasRun-as c (trial seed stations count workers) p ran)).1 in
+    let limits = Spells-runnable c.words (trial seed stations count workers) p in
+    (TrialRan-prints seed stations count c.out c.out' did, counts_all seed stations count limits.0 did.0)
+
+pub RunsTrials-run : (c : Call) → HasRun c → RunsTrials c
+RunsTrials-run c ran = λ seed stations count workers p calm.
+    TrialRan-completes seed stations count c.out c.out' c.outcome calm (HasRun-as c (trial seed stations count workers) p ran).1

@@ -179,6 +179,7 @@ NetRan-prints text name s s' o o' p = record {
   needed = p.reads.read.gave.needed;
   told = p.reads.read.gave.bytes;
   net = p.net;
+  is_net = p.is_net;
   made = ap (net_step name) (sym (append-nil (bytes_of p.reads.read.files))) ∙ p.reads.read.goes_on [];
   asked = p.reads.read.gave.asked;
   written = p.put.answer;

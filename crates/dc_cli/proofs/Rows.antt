@@ -235,3 +235,46 @@ logs-alone = (refl, refl)
 
 logs-two : (is_form (codes "logs" ∷ codes "a" ∷ codes "b" ∷ []) ≡ false) × (longest_begun (codes "logs" ∷ codes "a" ∷ codes "b" ∷ []) ≡ 2)
 logs-two = (refl, refl)
+
+-- ---- the command line of `trial`: its most words depend on its number of stations
+
+trial-form : is_form (codes "trial" ∷ codes "7" ∷ codes "256" ∷ codes "2048" ∷ []) ≡ true
+unfolding digits
+trial-form = refl
+
+trial-workers : is_form (codes "trial" ∷ codes "0" ∷ codes "1" ∷ codes "4096" ∷ codes "--workers" ∷ codes "8" ∷ []) ≡ true
+unfolding digits
+trial-workers = refl
+
+-- above 524288 words of all stations
+trial-large : longest_begun (codes "trial" ∷ codes "7" ∷ codes "256" ∷ codes "2049" ∷ []) ≡ 3
+unfolding digits
+trial-large = refl
+
+trial-no_form : is_form (codes "trial" ∷ codes "7" ∷ codes "256" ∷ codes "2049" ∷ []) ≡ false
+unfolding digits
+trial-no_form = refl
+
+-- 129 stations have at most 4064 words each
+trial-129 : longest_begun (codes "trial" ∷ codes "7" ∷ codes "129" ∷ codes "4065" ∷ []) ≡ 3
+unfolding digits
+trial-129 = refl
+
+-- above the words of a session
+trial-long : longest_begun (codes "trial" ∷ codes "7" ∷ codes "1" ∷ codes "4097" ∷ []) ≡ 3
+unfolding digits
+trial-long = refl
+
+-- no station, and no seed
+trial-none : longest_begun (codes "trial" ∷ codes "7" ∷ codes "0" ∷ codes "5" ∷ []) ≡ 2
+unfolding digits
+trial-none = refl
+
+trial-seed : longest_begun (codes "trial" ∷ codes "4294967296" ∷ codes "1" ∷ codes "1" ∷ []) ≡ 1
+unfolding digits
+trial-seed = refl
+
+-- a further word
+trial-more : longest_begun (codes "trial" ∷ codes "7" ∷ codes "1" ∷ codes "1" ∷ codes "--workers" ∷ codes "1" ∷ codes "1" ∷ []) ≡ 6
+unfolding digits
+trial-more = refl

@@ -1,8 +1,9 @@
 -- Commands, and the words that spell them.
-use Rattle.std.specs.Prelude.{ℕ, ◌+◌, ◌≤◌, ◌≡◌, false, List, [], ◌∷◌, codes, IsTrue, Some, Result, Ok, Err}
-use Rattle.dc_cli.specs.Forms.{Slot, literal, name, number, keygen_slots, seeds_slots, is_name, seed_in, number_between, begun, spells, is_form, longest_begun}
+use Rattle.std.specs.Prelude.{ℕ, ◌+◌, ◌*◌, ◌≤◌, ◌≡◌, false, List, [], ◌∷◌, ◌++◌, slice_index_or, codes, IsTrue, Some, Result, Ok, Err}
+use Rattle.dc_spec.specs.Limits.{most_stations, most_words}
+use Rattle.dc_cli.specs.Forms.{Slot, literal, name, number, keygen_slots, seeds_slots, workers_slots, most_words_of, words_slots, stations_slots, trial_slots, is_name, seed_in, number_between, begun, spells, is_form, longest_begun}
 use Rattle.dc_cli.specs.declared.command.Command.{Command}
-use Rattle.dc_cli.specs.declared.command.Command.TheVariants.{Sum, Keygen, KeygenSeeds, Migrate, Replay, Logs}
+use Rattle.dc_cli.specs.declared.command.Command.TheVariants.{Sum, Keygen, KeygenSeeds, Migrate, Replay, Logs, Trial}
 
 -- a command with its arguments
 pub data Task : Type 0 where
@@ -12,6 +13,7 @@ pub data Task : Type 0 where
   migrate : List ℕ → List ℕ → Task
   replay : List ℕ → ℕ → Task
   logs : List ℕ → Task
+  trial : ℕ → ℕ → ℕ → ℕ → Task
 
 -- the words spell a seed, the name of a manifest and the name of the key file that is written, and these are left
 pub record SpellsKeygen (words : List (List ℕ)) (seed net target : List ℕ) (flags : List (List ℕ)) : Type 0 where
@@ -21,11 +23,7 @@ pub record SpellsKeygen (words : List (List ℕ)) (seed net target : List ℕ) (
   pub net_is : IsTrue (is_name net)
   pub target_is : IsTrue (is_name target)
 
--- the places after the name of the manifest, where the number of workers is given
-abbrev pub workers_slots : List Slot
-workers_slots = literal (codes "--workers") ∷ number 1 64 ∷ []
-
--- the words after the name spell a number of workers: none is 1
+-- the last words of a command line spell a number of workers: none is 1
 pub data SpellsWorkers (words : List (List ℕ)) (workers : ℕ) : Type 0 where
   unsaid : words ≡ [] → workers ≡ 1 → SpellsWorkers words workers
   said : (digits : List ℕ) → words ≡ codes "--workers" ∷ digits ∷ [] → number_between 1 64 digits ≡ Some workers → SpellsWorkers words workers
@@ -37,6 +35,18 @@ pub record SpellsReplay (words : List (List ℕ)) (net : List ℕ) (workers : �
   pub net_is : IsTrue (is_name net)
   pub workers_are : SpellsWorkers rest workers
 
+-- the words spell the numbers of a trial: its seed, stations and words, and the workers
+pub record SpellsTrial (words : List (List ℕ)) (seed stations count workers : ℕ) : Type 0 where
+  pub of_seed : List ℕ
+  pub of_stations : List ℕ
+  pub of_count : List ℕ
+  pub rest : List (List ℕ)
+  pub words_are : words ≡ of_seed ∷ of_stations ∷ of_count ∷ rest
+  pub seed_is : number_between 0 4294967295 of_seed ≡ Some seed
+  pub stations_are : number_between 1 most_stations of_stations ≡ Some stations
+  pub count_is : number_between 1 (most_words_of stations) of_count ≡ Some count
+  pub workers_are : SpellsWorkers rest workers
+
 -- the words spell the command
 abbrev pub Spells : List (List ℕ) → Task → Type 0
 Spells words (sum file) = (words ≡ codes "sum" ∷ file ∷ []) × IsTrue (is_name file)
@@ -45,6 +55,7 @@ Spells words (keygen_seeds seed net target) = (rest : List (List ℕ)) × (words
 Spells words (migrate keys target) = (words ≡ codes "migrate" ∷ keys ∷ target ∷ []) × IsTrue (is_name keys) × IsTrue (is_name target)
 Spells words (replay net workers) = (rest : List (List ℕ)) × (words ≡ codes "replay" ∷ rest) × SpellsReplay rest net workers
 Spells words (logs net) = (words ≡ codes "logs" ∷ net ∷ []) × IsTrue (is_name net)
+Spells words (trial seed stations count workers) = (rest : List (List ℕ)) × (words ≡ codes "trial" ∷ rest) × SpellsTrial rest seed stations count workers
 
 -- the command that was read
 abbrev pub task_of : Command → Task
@@ -54,6 +65,7 @@ task_of (KeygenSeeds seed net target) = keygen_seeds seed net.now target.now
 task_of (Migrate keys target) = migrate keys.now target.now
 task_of (Replay net workers) = replay net.now workers
 task_of (Logs net) = logs net.now
+task_of (Trial seed stations words workers) = trial seed stations words workers
 
 -- the words were read as the command that they spell, or are not a form
 abbrev pub ReadsAs : List (List ℕ) → Result Command ℕ → Type 0
@@ -115,18 +127,60 @@ ReadsAsLogs words (Ok (Logs net)) = (words ≡ net.now ∷ []) × IsTrue (is_nam
 ReadsAsLogs words (Ok _) = ⊥
 ReadsAsLogs words (Err place) = (spells (name ∷ []) words ≡ false) × (place ≡ 1 + begun (name ∷ []) words)
 
--- the words after the name were read as a number of workers, or do not fit
-abbrev pub ReadsAsWorkers : List (List ℕ) → Result ℕ ℕ → Type 0
-ReadsAsWorkers words (Ok workers) = SpellsWorkers words workers
-ReadsAsWorkers words (Err place) =
-    (spells [] words ≡ false) × (spells workers_slots words ≡ false) × (place ≡ 2 + begun workers_slots words)
+-- the last words, after so many others, were read as a number of workers, or do not fit
+abbrev pub ReadsAsWorkers : ℕ → List (List ℕ) → Result ℕ ℕ → Type 0
+ReadsAsWorkers before words (Ok workers) = SpellsWorkers words workers
+ReadsAsWorkers before words (Err place) =
+    (spells [] words ≡ false) × (spells workers_slots words ≡ false) × (place ≡ before + begun workers_slots words)
 
 -- the words after `--workers` were read as a number, or do not fit
-abbrev pub ReadsAsCount : List (List ℕ) → Result ℕ ℕ → Type 0
-ReadsAsCount words (Ok workers) = (digits : List ℕ) × (words ≡ digits ∷ []) × (number_between 1 64 digits ≡ Some workers)
-ReadsAsCount words (Err place) = (spells (number 1 64 ∷ []) words ≡ false) × (place ≡ 3 + begun (number 1 64 ∷ []) words)
+abbrev pub ReadsAsCount : ℕ → List (List ℕ) → Result ℕ ℕ → Type 0
+ReadsAsCount before words (Ok workers) = (digits : List ℕ) × (words ≡ digits ∷ []) × (number_between 1 64 digits ≡ Some workers)
+ReadsAsCount before words (Err place) = (spells (number 1 64 ∷ []) words ≡ false) × (place ≡ before + begun (number 1 64 ∷ []) words)
 
--- a number of workers is within its limits
+-- the words spell the number of words of a trial of so many stations, and its workers
+pub record SpellsWords (words : List (List ℕ)) (stations count workers : ℕ) : Type 0 where
+  pub of_count : List ℕ
+  pub rest : List (List ℕ)
+  pub words_are : words ≡ of_count ∷ rest
+  pub count_is : number_between 1 (most_words_of stations) of_count ≡ Some count
+  pub workers_are : SpellsWorkers rest workers
+
+-- the words spell the number of stations too
+pub record SpellsStations (words : List (List ℕ)) (stations count workers : ℕ) : Type 0 where
+  pub of_stations : List ℕ
+  pub rest : List (List ℕ)
+  pub words_are : words ≡ of_stations ∷ rest
+  pub stations_are : number_between 1 most_stations of_stations ≡ Some stations
+  pub words_after : SpellsWords rest stations count workers
+
+-- the words do not fit the places of a trial, of which so many others stand before them
+abbrev pub FitsNot : ℕ → List Slot → List (List ℕ) → ℕ → Type 0
+FitsNot before slots words place =
+    (spells slots words ≡ false) × (spells (slots ++ workers_slots) words ≡ false)
+    × (place ≡ before + begun (slots ++ workers_slots) words)
+
+-- the words after the number of stations of a trial were read, or do not fit
+abbrev pub ReadsAsWords : ℕ → ℕ → List (List ℕ) → Result Command ℕ → Type 0
+ReadsAsWords seed stations words (Ok (Trial seen of count workers)) = (seen ≡ seed) × (of ≡ stations) × SpellsWords words stations count workers
+ReadsAsWords seed stations words (Ok _) = ⊥
+ReadsAsWords seed stations words (Err place) = FitsNot 3 (words_slots stations) words place
+
+-- the words after the seed of a trial were read, or do not fit
+abbrev pub ReadsAsStations : ℕ → List (List ℕ) → Result Command ℕ → Type 0
+ReadsAsStations seed words (Ok (Trial seen stations count workers)) = (seen ≡ seed) × SpellsStations words stations count workers
+ReadsAsStations seed words (Ok _) = ⊥
+ReadsAsStations seed words (Err place) = FitsNot 2 (stations_slots (slice_index_or words 0 [])) words place
+
+-- the words after `trial` were read as its numbers, or do not fit
+abbrev pub ReadsAsTrial : List (List ℕ) → Result Command ℕ → Type 0
+ReadsAsTrial words (Ok (Trial seed stations count workers)) = SpellsTrial words seed stations count workers
+ReadsAsTrial words (Ok _) = ⊥
+ReadsAsTrial words (Err place) = FitsNot 1 (trial_slots (slice_index_or words 1 [])) words place
+
+-- the numbers of a command are within their limits
 abbrev pub IsRunnable : Task → Type 0
 IsRunnable (replay net workers) = (1 ≤ workers) × (workers ≤ 64)
+IsRunnable (trial seed stations count workers) =
+    (1 ≤ stations) × (stations ≤ most_stations) × (1 ≤ count) × (count ≤ most_words) × (stations * count ≤ 524288) × (1 ≤ workers) × (workers ≤ 64)
 IsRunnable _ = Unit {0}

@@ -1,8 +1,9 @@
 -- The forms of the command line.
-use Rattle.std.specs.Prelude.{String, ℕ, suc, Bool, true, false, not, ◌&&◌, ◌==◌, max, nat_le, List, [], ◌∷◌, length, map, codes, if◌then◌else◌, fold, Option, None, Some, is_some}
+use Rattle.std.specs.Prelude.{String, ℕ, suc, ◌/◌, Bool, true, false, not, ◌&&◌, ◌==◌, min, max, nat_le, List, [], ◌∷◌, ◌++◌, length, map, slice_index_or, codes, if◌then◌else◌, fold, Option, None, Some, is_some, unwrap_or}
 use Rattle.std.specs.String.{string_bytes}
 use Rattle.std.specs.Str.{bytes_eq}
 use Rattle.std.specs.List.{list_any}
+use Rattle.dc_spec.specs.Limits.{most_stations, most_words}
 use Rattle.dc_field.specs.NumberInText.{number_in}
 use Rattle.dc_text.specs.Payload.{payload_in}
 
@@ -63,25 +64,50 @@ keygen_slots = seed_word ∷ name ∷ name ∷ []
 abbrev pub seeds_slots : List Slot
 seeds_slots = seed_word ∷ name ∷ name ∷ literal (codes "--seeds") ∷ []
 
--- all forms of the command line
-abbrev pub forms : List (List Slot)
-forms =
+-- the option that gives a number of workers
+abbrev pub workers_slots : List Slot
+workers_slots = literal (codes "--workers") ∷ number 1 64 ∷ []
+
+-- the most words of a trial of so many stations: all stations together send at most 524288
+abbrev pub most_words_of : ℕ → ℕ
+most_words_of stations = min most_words (524288 / stations)
+
+-- the number of stations that a word spells; 1 where it spells none
+abbrev pub stations_in : List ℕ → ℕ
+stations_in word = unwrap_or (number_between 1 most_stations word) 1
+
+-- what stands after `trial`: a number as the seed, a number of stations, and a number of words, of which more stations allow fewer
+abbrev pub words_slots : ℕ → List Slot
+words_slots stations = number 1 (most_words_of stations) ∷ []
+
+abbrev pub stations_slots : List ℕ → List Slot
+stations_slots stations = number 1 most_stations ∷ words_slots (stations_in stations)
+
+abbrev pub trial_slots : List ℕ → List Slot
+trial_slots stations = number 0 4294967295 ∷ stations_slots stations
+
+-- all forms of a command line of these words: the most words of a trial depend on its number of stations, which is the third word
+abbrev pub forms : List (List ℕ) → List (List Slot)
+forms words =
+    let stations = slice_index_or words 2 [] in
     (literal (codes "sum") ∷ name ∷ [])
     ∷ (literal (codes "keygen") ∷ keygen_slots)
     ∷ (literal (codes "keygen") ∷ seeds_slots)
     ∷ (literal (codes "migrate") ∷ name ∷ name ∷ [])
     ∷ (literal (codes "replay") ∷ name ∷ [])
-    ∷ (literal (codes "replay") ∷ name ∷ literal (codes "--workers") ∷ number 1 64 ∷ [])
+    ∷ (literal (codes "replay") ∷ name ∷ workers_slots)
     ∷ (literal (codes "logs") ∷ name ∷ [])
+    ∷ (literal (codes "trial") ∷ trial_slots stations)
+    ∷ (literal (codes "trial") ∷ trial_slots stations ++ workers_slots)
     ∷ []
 
 -- the words are one of the forms
 abbrev pub is_form : List (List ℕ) → Bool
-is_form words = list_any (λ form. spells form words) forms
+is_form words = list_any (λ form. spells form words) (forms words)
 
 -- the length of the longest beginning of the words that begins a form
 abbrev pub longest_begun : List (List ℕ) → ℕ
-longest_begun words = fold max 0 (map (λ form. begun form words) forms)
+longest_begun words = fold max 0 (map (λ form. begun form words) (forms words))
 
 -- the words of a command line as lists of bytes
 abbrev pub texts : {A : Type 0} → List (String A) → List (List ℕ)

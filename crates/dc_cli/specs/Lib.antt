@@ -16,3 +16,4 @@ pub mod Replaying
 pub mod Trials
 pub mod Ran
 pub mod Promises
+pub mod Theorems

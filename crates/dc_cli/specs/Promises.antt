@@ -22,8 +22,11 @@ use Rattle.dc_net_files.specs.Settled.{AreHeld}
 use Rattle.dc_run_texts.specs.View.{view_text}
 use Rattle.dc_run_texts.specs.Logs.{logs_text}
 use Rattle.dc_cli.specs.Replaying.{RunPrinted}
+use Rattle.dc_net.specs.TrialNets.{trial_net}
+use Rattle.dc_net_rules.specs.Runs.{run_of}
+use Rattle.dc_cli.specs.Trials.{summary_of, CountsAll}
 use Rattle.dc_cli.specs.Forms.{texts, is_form, longest_begun}
-use Rattle.dc_cli.specs.Commands.{Task, sum, keygen, keygen_seeds, migrate, replay, logs, Spells}
+use Rattle.dc_cli.specs.Commands.{Task, sum, keygen, keygen_seeds, migrate, replay, logs, trial, Spells}
 use Rattle.dc_cli.specs.Summing.{Refused}
 use Rattle.dc_cli.specs.Making.{Making}
 use Rattle.dc_cli.specs.Keygen.{keygen_making}
@@ -75,6 +78,7 @@ AsksFor shelf (keygen_seeds seed net target) files = files ≡ net ∷ target �
 AsksFor shelf (migrate keys target) files = files ≡ keys ∷ target ∷ []
 AsksFor shelf (replay net workers) files = NamesOfNet net shelf files
 AsksFor shelf (logs net) files = NamesOfNet net shelf files
+AsksFor shelf (trial seed stations count workers) files = files ≡ []
 
 -- words that are not a form are refused, and no others are
 pub record RefusesOtherWords (c : Call) : Type 0 where
@@ -95,6 +99,7 @@ Leaves (keygen_seeds seed net target) outcome before after = LeavesOthers target
 Leaves (migrate keys target) outcome before after = LeavesOthers target outcome before after
 Leaves (replay net workers) outcome before after = after.holds ≡ before.holds
 Leaves (logs net) outcome before after = after.holds ≡ before.holds
+Leaves (trial seed stations count workers) outcome before after = after.holds ≡ before.holds
 
 -- each file stays, unless the command of the words writes it
 pub record KeepsFiles (c : Call) : Type 0 where
@@ -132,6 +137,7 @@ HasLimit shelf (keygen_seeds seed net target) name limit = (name ≡ net) × (li
 HasLimit shelf (migrate keys target) name limit = (name ≡ keys) × (limit ≡ key_file_limit)
 HasLimit shelf (replay net workers) name limit = NeedsOfNet net shelf name limit
 HasLimit shelf (logs net) name limit = NeedsOfNet net shelf name limit
+HasLimit shelf (trial seed stations count workers) name limit = ⊥
 
 -- the outcome reports a name
 abbrev pub TellsName : Outcome → List ℕ → Type 0
@@ -194,6 +200,7 @@ making_of (keygen_seeds seed net target) = Some (seeds_making seed net target)
 making_of (migrate keys target) = Some (migrate_making keys target)
 making_of (replay net workers) = None
 making_of (logs net) = None
+making_of (trial seed stations count workers) = None
 
 -- each of these makes its file
 abbrev pub MakesFiles : Call → Type 0
@@ -236,3 +243,14 @@ abbrev pub RunsLogs : Call → Type 0
 RunsLogs c = (net : List ℕ) (files : List File) (made : Net) → Spells c.words (logs net) → AreNeeded (net_step net) files →
     AreHeld c.shelf.holds files → net_step net (bytes_of files) ≡ makes made [] →
     (Rose c.shelf.faults c.shelf'.faults → ⊥) → (Rose c.out.faults c.out'.faults → ⊥) → (c.outcome ≡ Done) ⊎ (c.outcome ≡ NoMemory)
+
+-- where `trial` is done, the summary of the run of the net of its numbers was printed, whatever the number of workers; what it counts
+-- is all that the stations had
+abbrev pub PrintsSummary : Call → Type 0
+PrintsSummary c = c.outcome ≡ Done → (seed stations count workers : ℕ) → Spells c.words (trial seed stations count workers) →
+    (c.out'.written ≡ grown c.out.written (summary_of seed stations count)) × CountsAll stations (run_of (trial_net seed stations count))
+
+-- where the count of faults of the output did not rise, `trial` is done, or memory ran out
+abbrev pub RunsTrials : Call → Type 0
+RunsTrials c = (seed stations count workers : ℕ) → Spells c.words (trial seed stations count workers) →
+    (Rose c.out.faults c.out'.faults → ⊥) → (c.outcome ≡ Done) ⊎ (c.outcome ≡ NoMemory)

@@ -5,7 +5,7 @@ use Rattle.dc_edge.specs.Sink.{Puts}
 use Rattle.dc_edge.specs.declared.fault.Failed.{Failed}
 use Rattle.dc_cli.specs.Lines.{fault_line}
 use Rattle.dc_cli.specs.Forms.{is_form, longest_begun}
-use Rattle.dc_cli.specs.Commands.{Task, sum, keygen, keygen_seeds, migrate, replay, logs, Spells}
+use Rattle.dc_cli.specs.Commands.{Task, sum, keygen, keygen_seeds, migrate, replay, logs, trial, Spells}
 use Rattle.dc_cli.specs.Summing.{SumRan}
 use Rattle.dc_cli.specs.Making.{MakesOf}
 use Rattle.dc_cli.specs.Keygen.{keygen_making}
@@ -14,6 +14,7 @@ use Rattle.dc_cli.specs.Migrating.{migrate_making}
 use Rattle.dc_run_texts.specs.View.{view_text}
 use Rattle.dc_run_texts.specs.Logs.{logs_text}
 use Rattle.dc_cli.specs.Replaying.{NetRan}
+use Rattle.dc_cli.specs.Trials.{TrialRan}
 use Rattle.dc_cli.specs.declared.outcome.Outcome.{Outcome}
 use Rattle.dc_cli.specs.declared.outcome.Outcome.TheVariants.{Usage}
 
@@ -32,6 +33,7 @@ CommandRan (keygen_seeds seed net target) shelf shelf' out out' outcome = (out' 
 CommandRan (migrate keys target) shelf shelf' out out' outcome = (out' ≡ out) × MakesOf (migrate_making keys target) shelf shelf' outcome
 CommandRan (replay net workers) shelf shelf' out out' outcome = NetRan view_text net shelf shelf' out out' outcome
 CommandRan (logs net) shelf shelf' out out' outcome = NetRan logs_text net shelf shelf' out out' outcome
+CommandRan (trial seed stations count workers) shelf shelf' out out' outcome = (shelf' ≡ shelf) × TrialRan seed stations count out out' outcome
 
 -- the command that the words spell, and what it did
 pub record RanCommand (words : List (List ℕ)) (shelf shelf' : ShelfState) (out out' : SinkState) (outcome : Outcome) : Type 0 where

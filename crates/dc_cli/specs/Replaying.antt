@@ -4,6 +4,7 @@ use Rattle.dc_spec.specs.Outside.{ShelfState, SinkState, Tells, grown}
 use Rattle.dc_spec.specs.Net.{Net, Run}
 use Rattle.dc_edge.specs.Sink.{Puts}
 use Rattle.dc_edge.specs.declared.fault.Failed.{Failed}
+use Rattle.dc_net_rules.specs.Nets.{IsNet}
 use Rattle.dc_net_rules.specs.Runs.{run_of}
 use Rattle.dc_run_texts.specs.View.{view_text}
 use Rattle.dc_run_texts.specs.Logs.{logs_text}
@@ -58,12 +59,13 @@ text_of Logs = logs_text
 pub record PutRun (text : Net → Run → List ℕ) (name : List ℕ) (shelf shelf' : ShelfState) (out out' : SinkState) (ended : Result Unit Failed) : Type 0 where
   pub net : Net
   pub reads : ReadsNet name shelf shelf' (Ok net)
+  pub is_net : IsNet net
   pub put : Puts (text net (run_of net)) out out' ended
 
 -- a net was run, and the text of its run was put; or memory ran out
 abbrev pub RunPut : (Net → Run → List ℕ) → Net → SinkState → SinkState → Outcome → Type 0
-RunPut text net out out' Done = Puts (text net (run_of net)) out out' (Ok tt)
-RunPut text net out out' SinkFault = (failed : Failed) × Puts (text net (run_of net)) out out' (Err failed)
+RunPut text net out out' Done = IsNet net × Puts (text net (run_of net)) out out' (Ok tt)
+RunPut text net out out' SinkFault = IsNet net × ((failed : Failed) × Puts (text net (run_of net)) out out' (Err failed))
 RunPut text net out out' NoMemory = out' ≡ out
 RunPut text net out out' _ = ⊥
 
@@ -81,6 +83,7 @@ pub record RunPrinted (text : Net → Run → List ℕ) (name : List ℕ) (shelf
   pub needed : AreNeeded (net_step name) files
   pub told : All (λ file. Tells (shelf.holds file.name) file.bytes) files
   pub net : Net
+  pub is_net : IsNet net
   pub made : net_step name (bytes_of files) ≡ makes net []
   pub asked : shelf'.asked ≡ grown shelf.asked (names_of files)
   pub written : out'.written ≡ grown out.written (text net (run_of net))

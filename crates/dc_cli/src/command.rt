@@ -1,8 +1,9 @@
 //! The words of a command line as a command.
 
-ghost use Rattle.std.specs.Prelude.{◌≡◌, ◌∷◌};
-ghost use Rattle.dc_cli.specs.Forms.{texts, is_name as name_test, seed_in, number_between};
-ghost use Rattle.dc_cli.specs.Commands.{ReadsAs, ReadsAsFile, ReadsAsKeygen, ReadsAsNames, ReadsAsFlag, ReadsAsMigrate, ReadsAsReplay, ReadsAsLogs, ReadsAsWorkers, ReadsAsCount};
+ghost use Rattle.std.specs.Prelude.{◌≡◌, ◌≤◌, ◌∷◌};
+ghost use Rattle.dc_spec.specs.Limits.{most_stations};
+ghost use Rattle.dc_cli.specs.Forms.{texts, is_name as name_test, seed_in, number_between, most_words_of};
+ghost use Rattle.dc_cli.specs.Commands.{ReadsAs, ReadsAsFile, ReadsAsKeygen, ReadsAsNames, ReadsAsFlag, ReadsAsMigrate, ReadsAsReplay, ReadsAsLogs, ReadsAsTrial, ReadsAsStations, ReadsAsWords, ReadsAsWorkers, ReadsAsCount};
 
 use dc_field::read_decimal;
 use dc_text::{Digits, decode_payload, payload_length};
@@ -40,6 +41,14 @@ pub enum Command<'a> {
     Logs {
         net: &'a str,
     },
+    /// Prints the summary of the run of the net of a seed and of 1 to 256 stations and 1 to 4096 words, computed by 1 to 64
+    /// workers.
+    Trial {
+        seed: u32,
+        stations: u16,
+        words: u16,
+        workers: u32,
+    },
 }
 
 /// The command that the words spell, or how many words from the front begin a valid command line, at most.
@@ -61,6 +70,7 @@ fn command_with<'a>(verb: &str, rest: &'a [String]) -> Result<Command<'a>, u32>
         "migrate" => migrate_of(rest),
         "replay" => replay_of(rest),
         "logs" => logs_of(rest),
+        "trial" => trial_of(rest),
         _ => Err(0),
     }
 }
@@ -137,7 +147,7 @@ fn replay_of(rest: &[String]) -> Result<Command<'_>, u32>
     ensures { ReadsAsReplay (texts rest.now) result }
 {
     match rest {
-        [net, option @ ..] if is_name(net.as_str()) => match workers_of(option) {
+        [net, option @ ..] if is_name(net.as_str()) => match workers_of(2, option) {
             Ok(workers) => Ok(Command::Replay {
                 net: net.as_str(),
                 workers,
@@ -158,37 +168,104 @@ fn logs_of(rest: &[String]) -> Result<Command<'_>, u32>
     }
 }
 
-/// The number of workers that the words after the name give; 1 where there are none.
-fn workers_of(rest: &[String]) -> Result<u32, u32>
-    ensures { ReadsAsWorkers (texts rest.now) result }
+fn trial_of(rest: &[String]) -> Result<Command<'_>, u32>
+    ensures { ReadsAsTrial (texts rest.now) result }
 {
     match rest {
-        [] => Ok(1),
-        [option, count @ ..] if option.as_str() == "--workers" => count_of(count),
+        [digits, more @ ..] => match number_of(digits.as_str(), 0, u32::MAX) {
+            Some(seed) => trial_with(seed, more),
+            None => Err(1),
+        },
+        _ => Err(1),
+    }
+}
+
+fn trial_with<'a>(seed: u32, rest: &'a [String]) -> Result<Command<'a>, u32>
+    ensures { ReadsAsStations seed (texts rest.now) result }
+{
+    match rest {
+        [digits, more @ ..] => match small_number_of(digits.as_str(), 256) {
+            Some(stations) => trial_among(seed, stations, more),
+            None => Err(2),
+        },
         _ => Err(2),
     }
 }
 
-fn count_of(rest: &[String]) -> Result<u32, u32>
-    ensures { ReadsAsCount (texts rest.now) result }
+fn trial_among<'a>(seed: u32, stations: u16, rest: &'a [String]) -> Result<Command<'a>, u32>
+    requires some { 1 ≤ stations }
+    requires most { stations ≤ most_stations }
+    ensures { ReadsAsWords seed stations (texts rest.now) result }
 {
     match rest {
-        [] => Err(3),
-        [digits, more @ ..] => match number_of(digits.as_str()) {
-            Some(workers) if more.is_empty() => Ok(workers),
-            Some(_) => Err(4),
+        [digits, option @ ..] => match small_number_of(digits.as_str(), most_words_of(stations)) {
+            Some(words) => match workers_of(4, option) {
+                Ok(workers) => Ok(Command::Trial {
+                    seed,
+                    stations,
+                    words,
+                    workers,
+                }),
+                Err(place) => Err(place),
+            },
             None => Err(3),
+        },
+        _ => Err(3),
+    }
+}
+
+/// The most words of a trial of 1 to 256 stations.
+fn most_words_of(stations: u16) -> u16
+    requires some { 1 ≤ stations }
+    ensures { result ≡ most_words_of stations }
+{
+    let most = 524_288 / u32::from(stations);
+    if most < 4096 { most as u16 } else { 4096 }
+}
+
+/// The number of workers that the last words give, after so many others; 1 where there are none.
+fn workers_of(before: u32, rest: &[String]) -> Result<u32, u32>
+    requires few { before ≤ 4 }
+    ensures { ReadsAsWorkers before (texts rest.now) result }
+{
+    match rest {
+        [] => Ok(1),
+        [option, count @ ..] if option.as_str() == "--workers" => count_of(before + 1, count),
+        _ => Err(before),
+    }
+}
+
+fn count_of(before: u32, rest: &[String]) -> Result<u32, u32>
+    requires few { before ≤ 5 }
+    ensures { ReadsAsCount before (texts rest.now) result }
+{
+    match rest {
+        [] => Err(before),
+        [digits, more @ ..] => match number_of(digits.as_str(), 1, 64) {
+            Some(workers) if more.is_empty() => Ok(workers),
+            Some(_) => Err(before + 1),
+            None => Err(before),
         },
     }
 }
 
-/// The number from 1 to 64 that a word spells.
-fn number_of(word: &str) -> Option<u32>
-    ensures { result ≡ number_between 1 64 word.now }
+/// The number within these limits that a word spells.
+fn number_of(word: &str, low: u32, high: u32) -> Option<u32>
+    ensures { result ≡ number_between low high word.now }
 {
     match read_decimal(word.as_bytes()) {
-        Some(number) if 1 <= number && number <= 64 => Some(number),
+        Some(number) if low <= number && number <= high => Some(number),
         _ => None,
+    }
+}
+
+/// The number from 1 to another that a word spells.
+fn small_number_of(word: &str, high: u16) -> Option<u16>
+    ensures { result ≡ number_between 1 high word.now }
+{
+    match number_of(word, 1, u32::from(high)) {
+        Some(number) => Some(number as u16),
+        None => None,
     }
 }
 

@@ -58,6 +58,7 @@ fn print_run<R: Threads + Sync, K: Sink, G: Gate + Sync>(
     requires most { workers ≤ 64 }
     ensures { RunPut (text_of printed) net.now (K.state out.old) (K.state out.new) result }
 {
+    let _checked = net.net();
     match run(rt, alloc, net, workers, gate) {
         Err(_) => Outcome::NoMemory,
         Ok(played) => match put_run(net, &played, printed, out) {

@@ -2,7 +2,8 @@
 
 ghost use Rattle.dc_cli.specs.Forms.{texts};
 ghost use Rattle.dc_cli.specs.Commands.{IsRunnable, task_of};
-ghost use Rattle.dc_cli.specs.Promises.{call, RefusesOtherWords, PrintsSums, Completes, AsksInOrder, TellsTheLast, KeepsFiles, PrintsOnlyWhenDone, MissesTheAbsent, RefusesTheLong, RefusesTheMalformed, TellsTheFault, HasCauses, WritesKeys, WritesSeeds, WritesPads, MakesFiles, PrintsView, PrintsLogs, RunsNets, RunsLogs};
+ghost use Rattle.dc_cli.specs.Promises.{call, RefusesOtherWords, PrintsSums, Completes, AsksInOrder, TellsTheLast, KeepsFiles, PrintsOnlyWhenDone, MissesTheAbsent, RefusesTheLong, RefusesTheMalformed, TellsTheFault, HasCauses, WritesKeys, WritesSeeds, WritesPads, MakesFiles, PrintsView, PrintsLogs, RunsNets, RunsLogs, PrintsSummary, RunsTrials};
+ghost use Rattle.dc_cli.specs.Theorems.{IsUntraceable, IsSteerable, DeliversMessages};
 ghost use Rattle.dc_cli.specs.Ran.{Ran, CommandRan, PutsLine};
 
 use crate::command::{Command, command_of};
@@ -13,6 +14,7 @@ use crate::migrate::run_migrate;
 use crate::outcome::Outcome;
 use crate::replaying::{Printed, run_net};
 use crate::summing::run_sum;
+use crate::trial::run_trial;
 use dc_edge::{Gate, Shelf, Sink};
 use std::alloc::Global;
 use std::thread::Threads;
@@ -71,6 +73,16 @@ pub fn dcnet<R: Threads + Sync, F: Shelf, K: Sink, E: Sink, G: Gate + Sync>(
         (call F.state K.state words.now shelf.old shelf.new out.old out.new result) }
     ensures log_nets { RunsLogs
         (call F.state K.state words.now shelf.old shelf.new out.old out.new result) }
+    ensures trial { PrintsSummary
+        (call F.state K.state words.now shelf.old shelf.new out.old out.new result) }
+    ensures trials { RunsTrials
+        (call F.state K.state words.now shelf.old shelf.new out.old out.new result) }
+    ensures untraceable { IsUntraceable
+        (call F.state K.state words.now shelf.old shelf.new out.old out.new result) }
+    ensures steerable { IsSteerable
+        (call F.state K.state words.now shelf.old shelf.new out.old out.new result) }
+    ensures delivers { DeliversMessages
+        (call F.state K.state words.now shelf.old shelf.new out.old out.new result) }
 {
     let outcome = run(rt, alloc, words, shelf, out, gate);
     let _ = put_fault(&outcome, err);
@@ -118,5 +130,11 @@ fn run_command<R: Threads + Sync, F: Shelf, K: Sink, G: Gate + Sync>(
             run_net(rt, alloc, net, workers, Printed::View, shelf, out, gate)
         }
         Command::Logs { net } => run_net(rt, alloc, net, 1, Printed::Logs, shelf, out, gate),
+        Command::Trial {
+            seed,
+            stations,
+            words,
+            workers,
+        } => { run_trial(rt, alloc, seed, stations, words, workers, out, gate) }
     }
 }

@@ -54,6 +54,7 @@ fn summed_run<R: Threads + Sync, K: Sink, G: Gate + Sync>(
     requires most_workers { workers ≤ 64 }
     ensures { SummaryRan seed stations words net.now (K.state out.old) (K.state out.new) result }
 {
+    let _checked = net.net();
     match run(rt, alloc, net, workers, gate) {
         Err(_) => Outcome::NoMemory,
         Ok(played) => match put_trial(seed, stations, words, &played, out) {

@@ -1,7 +1,8 @@
 use dc_cli::{dcnet, status};
-use dc_edge::{MemoryShelf, MemorySink, OpenGate};
+use dc_edge::{Gate, MemoryShelf, MemorySink, OpenGate};
 use dc_field::NoMemory;
 use std::process::Abort;
+use std::sync::atomic::{AtomicBool, Ordering};
 use std::test::Fail;
 use std::thread::Threads;
 
@@ -93,5 +94,87 @@ fn refusals(rt: HostRuntime) -> Result<(), Fail> {
         b"",
         usage,
     )?;
+    Ok(())
+}
+
+/// A manifest of eight stations, for one round.
+const EIGHT: &str = "stations = 8
+words = 1
+edges = []
+keys = \"k.bin\"
+streams = [\"a.txt\", \"a.txt\", \"a.txt\", \"a.txt\", \"a.txt\", \"a.txt\", \"a.txt\", \"a.txt\"]
+";
+
+/// A gate at which the first and the last of eight pieces wait for each other.
+#[derive(Drop)]
+struct Meeting {
+    first: AtomicBool,
+    last: AtomicBool,
+    first_saw: AtomicBool,
+    last_saw: AtomicBool,
+}
+
+impl Gate for Meeting {
+    fn pass(&self, piece: usize) {
+        if piece == 0 {
+            meet(&self.first, &self.last, &self.first_saw);
+        }
+        if piece == 7 {
+            meet(&self.last, &self.first, &self.last_saw);
+        }
+    }
+}
+
+/// Sets a flag and then waits for another one, at most 200,000,000 turns.
+fn meet(mine: &AtomicBool, other: &AtomicBool, saw: &AtomicBool) {
+    mine.store(true, Ordering::SeqCst);
+    for _ in 0..200_000_000u32 {
+        if other.load(Ordering::SeqCst) {
+            saw.store(true, Ordering::SeqCst);
+            return;
+        }
+    }
+}
+
+/// Asserts that a call that computes the words of eight stations is done, with this gate.
+fn passes<R: Threads + Sync + AllocGlobal + Abort>(
+    rt: &R,
+    words: &[&str],
+    gate: &Meeting,
+) -> Result<(), NoMemory> {
+    let alloc = rt.alloc();
+    let mut shelf = MemoryShelf::new(alloc, &[])?;
+    shelf.hold(alloc, "net.toml", EIGHT.as_bytes())?;
+    shelf.hold(alloc, "k.bin", &keys(8))?;
+    shelf.hold(alloc, "a.txt", b"")?;
+    let mut out = MemorySink::new(alloc, 4000, &[])?;
+    let mut err = MemorySink::new(alloc, 1000, &[])?;
+    let mut line = Vec::new(alloc);
+    for word in words {
+        line.push(String::from_str(alloc, word)?)?;
+    }
+    let outcome = dcnet(rt, alloc, &line, &mut shelf, &mut out, &mut err, gate);
+    assert_eq!(rt; status(&outcome), 0);
+    Ok(())
+}
+
+/// Asserts that two pieces meet in a call.
+fn meets<R: Threads + Sync + AllocGlobal + Abort>(rt: &R, words: &[&str]) -> Result<(), NoMemory> {
+    let gate = Meeting {
+        first: AtomicBool::new(false),
+        last: AtomicBool::new(false),
+        first_saw: AtomicBool::new(false),
+        last_saw: AtomicBool::new(false),
+    };
+    passes(rt, words, &gate)?;
+    assert!(rt; gate.first_saw.load(Ordering::SeqCst));
+    assert!(rt; gate.last_saw.load(Ordering::SeqCst));
+    Ok(())
+}
+
+#[test]
+fn two_workers_compute_words_at_once(rt: HostRuntime) -> Result<(), Fail> {
+    meets(&rt, &["replay", "net.toml", "--workers", "2"])?;
+    meets(&rt, &["trial", "7", "8", "1", "--workers", "2"])?;
     Ok(())
 }

@@ -1,9 +1,24 @@
 use Rattle.dc_cli.specs.Forms.{texts}
-use Rattle.dc_cli.proofs.CommandLemmas.{other_word, ReadsAs-replay}
+use Rattle.dc_cli.proofs.CommandLemmas.{other_word, ReadsAs-sum, ReadsAs-keygen, ReadsAs-migrate, ReadsAs-replay, ReadsAs-logs, ReadsAs-trial}
 use Rattle.dc_cli.proofs.command.command_with.Goals as goal
 
 pub returns-in_default : goal.returns-in_default
-returns-in_default c = other_word c.args.verb.now (texts c.args.rest.now) c.in_default.not-sum c.in_default.not-keygen c.in_default.not-migrate c.in_default.not-replay c.in_default.not-logs
+returns-in_default c = other_word c.args.verb.now (texts c.args.rest.now) c.in_default.not-sum c.in_default.not-keygen c.in_default.not-migrate c.in_default.not-replay c.in_default.not-logs c.in_default.not-trial
 
 pub returns-in-replay : goal.returns-in-replay
 returns-in-replay c = rw c.in-replay.is (ReadsAs-replay (texts c.args.rest.now) c.replay_of.result c.replay_of.ensures)
+
+pub returns-in-trial : goal.returns-in-trial
+returns-in-trial c = rw c.in-trial.is (ReadsAs-trial (texts c.args.rest.now) c.trial_of.result c.trial_of.ensures)
+
+pub returns-in-sum : goal.returns-in-sum
+returns-in-sum c = rw c.in-sum.is (ReadsAs-sum (texts c.args.rest.now) c.sum_of.result c.sum_of.ensures)
+
+pub returns-in-keygen : goal.returns-in-keygen
+returns-in-keygen c = rw c.in-keygen.is (ReadsAs-keygen (texts c.args.rest.now) c.keygen_of.result c.keygen_of.ensures)
+
+pub returns-in-migrate : goal.returns-in-migrate
+returns-in-migrate c = rw c.in-migrate.is (ReadsAs-migrate (texts c.args.rest.now) c.migrate_of.result c.migrate_of.ensures)
+
+pub returns-in-logs : goal.returns-in-logs
+returns-in-logs c = rw c.in-logs.is (ReadsAs-logs (texts c.args.rest.now) c.logs_of.result c.logs_of.ensures)

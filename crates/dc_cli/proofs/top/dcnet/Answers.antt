@@ -1,4 +1,5 @@
-use Rattle.dc_cli.proofs.PromiseLemmas.{RefusesOtherWords-run, PrintsSums-run, Completes-run, AsksInOrder-run, KeepsFiles-run, PrintsOnlyWhenDone-run, MissesTheAbsent-run, RefusesTheLong-run, RefusesTheMalformed-run, TellsTheFault-run, TellsTheLast-run, HasCauses-run, WritesKeys-run, WritesSeeds-run, WritesPads-run, MakesFiles-run, PrintsView-run, PrintsLogs-run, RunsNets-run, RunsLogs-run}
+use Rattle.dc_cli.proofs.PromiseLemmas.{RefusesOtherWords-run, PrintsSums-run, Completes-run, AsksInOrder-run, KeepsFiles-run, PrintsOnlyWhenDone-run, MissesTheAbsent-run, RefusesTheLong-run, RefusesTheMalformed-run, TellsTheFault-run, TellsTheLast-run, HasCauses-run, WritesKeys-run, WritesSeeds-run, WritesPads-run, MakesFiles-run, PrintsView-run, PrintsLogs-run, RunsNets-run, RunsLogs-run, PrintsSummary-run, RunsTrials-run}
+use Rattle.dc_cli.proofs.TheoremLemmas.{IsUntraceable-run, IsSteerable-run, DeliversMessages-run}
 use Rattle.dc_cli.proofs.top.dcnet.Goals as goal
 
 pub returns-clause-words : goal.returns-clause-words
@@ -60,3 +61,18 @@ returns-clause-logs g c = PrintsLogs-run _ c.run-outcome.ensures
 
 pub returns-clause-log_nets : goal.returns-clause-log_nets
 returns-clause-log_nets g c = RunsLogs-run _ c.run-outcome.ensures
+
+pub returns-clause-trial : goal.returns-clause-trial
+returns-clause-trial g c = PrintsSummary-run _ c.run-outcome.ensures
+
+pub returns-clause-trials : goal.returns-clause-trials
+returns-clause-trials g c = RunsTrials-run _ c.run-outcome.ensures
+
+pub returns-clause-untraceable : goal.returns-clause-untraceable
+returns-clause-untraceable g c = IsUntraceable-run _ c.run-outcome.ensures
+
+pub returns-clause-steerable : goal.returns-clause-steerable
+returns-clause-steerable g c = IsSteerable-run _ c.run-outcome.ensures
+
+pub returns-clause-delivers : goal.returns-clause-delivers
+returns-clause-delivers g c = DeliversMessages-run _ c.run-outcome.ensures

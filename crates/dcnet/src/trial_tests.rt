@@ -1,0 +1,104 @@
+use dc_cli::{dcnet, status};
+use dc_edge::{MemoryShelf, MemorySink, OpenGate};
+use dc_field::NoMemory;
+use std::process::Abort;
+use std::test::Fail;
+use std::thread::Threads;
+
+/// Asserts how a call ends over an empty shelf and an output of this room.
+fn check<R: Threads + Sync + AllocGlobal + Abort>(
+    rt: &R,
+    words: &[&str],
+    room: u32,
+    due: u8,
+    printed: &[u8],
+    told: &[u8],
+) -> Result<(), NoMemory> {
+    let alloc = rt.alloc();
+    let mut shelf = MemoryShelf::new(alloc, &[])?;
+    let mut out = MemorySink::new(alloc, room, &[])?;
+    let mut err = MemorySink::new(alloc, 1000, &[])?;
+    let mut line = Vec::new(alloc);
+    for word in words {
+        line.push(String::from_str(alloc, word)?)?;
+    }
+    let outcome = dcnet(rt, alloc, &line, &mut shelf, &mut out, &mut err, &OpenGate);
+    assert_eq!(rt; status(&outcome), due);
+    assert_eq!(rt; out.bytes(), printed);
+    assert_eq!(rt; err.bytes(), told);
+    Ok(())
+}
+
+/// The summary of a trial of 256 stations, of which most stay pending.
+const MANY_STATIONS: &[u8] = b"trial 7 256 64
+short 39
+long 9
+pending 473 7
+sum 0027d0b5b8024ad03de30341d04c890437c03dab01e790250f02ba60215c021a70396203d800346b
+";
+
+/// The summary of a trial of 64 stations that all send all that they have.
+const MANY_WORDS: &[u8] = b"trial 7 64 512
+short 128
+long 4
+pending 0 0
+sum 002180e8c7001fe0020001a0e007d6021130022c0e3640f8310f07d0ff61013b400e7f012400086d
+";
+
+#[test]
+fn a_summary_is_the_same_for_each_number_of_workers(rt: HostRuntime) -> Result<(), Fail> {
+    let words = ["trial", "7", "256", "64", "--workers", "1"];
+    check(&rt, &words, 1000, 0, MANY_STATIONS, b"")?;
+    let words = ["trial", "7", "256", "64", "--workers", "8"];
+    check(&rt, &words, 1000, 0, MANY_STATIONS, b"")?;
+    Ok(())
+}
+
+#[test]
+fn all_stations_send_all(rt: HostRuntime) -> Result<(), Fail> {
+    check(&rt, &["trial", "7", "64", "512"], 1000, 0, MANY_WORDS, b"")?;
+    Ok(())
+}
+
+#[test]
+fn an_output_without_room(rt: HostRuntime) -> Result<(), Fail> {
+    let told = b"dcnet: output fault\n";
+    check(&rt, &["trial", "0", "1", "1"], 9, 9, b"trial 0 1", told)?;
+    Ok(())
+}
+
+/// Asserts that words are not a command line.
+fn is_usage<R: Threads + Sync + AllocGlobal + Abort>(
+    rt: &R,
+    words: &[&str],
+    told: &[u8],
+) -> Result<(), NoMemory> {
+    check(rt, words, 1000, 2, b"", told)
+}
+
+#[test]
+fn words_that_are_not_a_trial(rt: HostRuntime) -> Result<(), Fail> {
+    is_usage(&rt, &["trial"], b"dcnet: usage: word 1\n")?;
+    is_usage(&rt, &["trial", "x", "1", "1"], b"dcnet: usage: word 1\n")?;
+    let above = ["trial", "4294967296", "1", "1"];
+    is_usage(&rt, &above, b"dcnet: usage: word 1\n")?;
+    is_usage(&rt, &["trial", "7", "0", "5"], b"dcnet: usage: word 2\n")?;
+    is_usage(&rt, &["trial", "7", "257", "5"], b"dcnet: usage: word 2\n")?;
+    is_usage(&rt, &["trial", "7", "256"], b"dcnet: usage: word 3\n")?;
+    is_usage(
+        &rt,
+        &["trial", "7", "256", "2049"],
+        b"dcnet: usage: word 3\n",
+    )?;
+    is_usage(&rt, &["trial", "7", "1", "4097"], b"dcnet: usage: word 3\n")?;
+    is_usage(
+        &rt,
+        &["trial", "7", "1", "1", "1"],
+        b"dcnet: usage: word 4\n",
+    )?;
+    let lost = ["trial", "7", "1", "1", "--workers"];
+    is_usage(&rt, &lost, b"dcnet: usage: word 5\n")?;
+    let more = ["trial", "7", "1", "1", "--workers", "1", "1"];
+    is_usage(&rt, &more, b"dcnet: usage: word 6\n")?;
+    Ok(())
+}
