@@ -6,6 +6,8 @@ mod edges;
 #[cfg(test)]
 mod groups;
 #[cfg(test)]
+mod hubs;
+#[cfg(test)]
 mod lists;
 #[cfg(test)]
 mod real_files;
