@@ -4,12 +4,7 @@ use dc_graph::{Coalition, Forest, Graph};
 use std::process::Abort;
 use std::test::*;
 
-fn forest<R: AllocGlobal + Abort>(
-    rt: &R,
-    n: u16,
-    edges: &[(u16, u16)],
-    members: &[u16],
-) -> Forest {
+fn forest<R: AllocGlobal + Abort>(rt: &R, n: u16, edges: &[(u16, u16)], members: &[u16]) -> Forest {
     let g = done(rt, Graph::new(rt.alloc(), n, edges));
     let c = done(rt, Coalition::new(rt.alloc(), &g, members));
     done(rt, Forest::of(rt.alloc(), &g, &c))

@@ -74,9 +74,9 @@ places_found g members table order found is flags =
     let member : slice_index_or members v false ≡ is_among g.coalition v = ap (λ ms. slice_index_or ms v false) flags ∙ get_or-map-range_with_len (is_among g.coalition) 0 n v v false low (omega arith) in
     let own : root_of found v ≡ root g v = (roots_and_distances g is.graph (root_of found) (distance_of found) are v low).0 in
     let up : find (is_step_nearer n table found v) (range_with_len 0 n) ≡ parent g v =
-        find_same (is_step_nearer n table found v) (λ u. are_neighbours g u v && (distance_of found u + 1 == distance_of found v)) (range_with_len 0 n)
-        (λ u near. let under : u < 0 + n = below_range 0 n u near in ap (λ b. b && (distance_of found u + 1 == distance_of found v)) (is.table_of.flags u v (omega arith) low))
-        ∙ parent_found g is.graph (root_of found) (distance_of found) are v low in
+    find_same (is_step_nearer n table found v) (λ u. are_neighbours g u v && (distance_of found u + 1 == distance_of found v)) (range_with_len 0 n)
+    (λ u near. let under : u < 0 + n = below_range 0 n u near in ap (λ b. b && (distance_of found u + 1 == distance_of found v)) (is.table_of.flags u v (omega arith) low))
+    ∙ parent_found g is.graph (root_of found) (distance_of found) are v low in
     ap (λ m. place_of_parts m (root_of found v) (find (is_step_nearer n table found v) (range_with_len 0 n))) member
     ∙ ap (λ r. place_of_parts (is_among g.coalition v) r (find (is_step_nearer n table found v) (range_with_len 0 n))) own
     ∙ ap (λ p. place_of_parts (is_among g.coalition v) (root g v) p) up)
@@ -256,6 +256,7 @@ sums_done g forest is demands own sums words as_many each =
     map_members : (xs : List ℕ) → map (λ p. p.is_member) (map (place_in g) xs) ≡ map (is_among g.coalition) xs
     map_members [] = refl
     map_members (x ∷ xs) = ap (λ ms. is_among g.coalition x ∷ ms) (map_members xs)
+
     member : (v : ℕ) → v < g.stations → slice_index_or (members_in forest) v false ≡ is_among g.coalition v
     member v low = ap (λ ms. slice_index_or ms v false) (ap members_in is.places ∙ map_members (range_with_len 0 g.stations)) ∙ get_or-map-range_with_len (is_among g.coalition) 0 g.stations v v false low (omega arith)
 

@@ -139,23 +139,27 @@ one_more edge n head {order = order} {order' = order'} {found = found} {found' =
         | inl new ↦ (let at : distance_of found' v ≡ distance = ap (distance_of found') new ∙ new_distance one in
             let from = can.goes_on (omega arith) in
             let steps = from.4 in
-            let near = old_distance one from.0 from.1 in
-            (from.0, record {
-              seen = stays_found one from.0 from.1;
-              is_edge = ap (edge from.0) new ∙ from.2;
-              root = old_root one from.0 from.1 ∙ from.3 ∙ sym (ap (root_of found') new ∙ new_root one);
-              distance = omega arith;
-            }))
+            let near = old_distance one from.0 from.1 in (
+              from.0,
+              record {
+                seen = stays_found one from.0 from.1;
+                is_edge = ap (edge from.0) new ∙ from.2;
+                root = old_root one from.0 from.1 ∙ from.3 ∙ sym (ap (root_of found') new ∙ new_root one);
+                distance = omega arith;
+              },
+            ))
         | inr old ↦ (let at = old_distance one v old in
             let from = walk.goes_on v old (omega arith) in
             let steps = from.1.distance in
-            let near = old_distance one from.0 from.1.seen in
-            (from.0, record {
-              seen = stays_found one from.0 from.1.seen;
-              is_edge = from.1.is_edge;
-              root = old_root one from.0 from.1.seen ∙ from.1.root ∙ sym (old_root one v old);
-              distance = omega arith;
-            }))
+            let near = old_distance one from.0 from.1.seen in (
+              from.0,
+              record {
+                seen = stays_found one from.0 from.1.seen;
+                is_edge = from.1.is_edge;
+                root = old_root one from.0 from.1.seen ∙ from.1.root ∙ sym (old_root one v old);
+                distance = omega arith;
+              },
+            ))
       ];
       least = λ v seen. elim (found_cases one v seen) [
         | inl new ↦ (let at : root_of found' v ≡ root = ap (root_of found') new ∙ new_root one in let bound = can.least in omega arith)
@@ -163,9 +167,9 @@ one_more edge n head {order = order} {order' = order'} {found = found} {found' =
       ];
       before = λ v u seen low. elim (found_cases one v seen) [
         | inl new ↦ (let at : root_of found' v ≡ root = ap (root_of found') new ∙ new_root one in elim (can.before u (omega arith)) [
-            | inl same ↦ ap (is_found found') same ∙ ap is_some (at_new one)
-            | inr there ↦ stays_found one u there
-          ])
+          | inl same ↦ ap (is_found found') same ∙ ap is_some (at_new one)
+          | inr there ↦ stays_found one u there
+        ])
         | inr old ↦ (let at = old_root one v old in stays_found one u (walk.before v u old (omega arith)))
       ];
       closed = λ k x less inside is_edge. (let within : k < length order = omega arith in
@@ -178,7 +182,7 @@ one_more edge n head {order = order} {order' = order'} {found = found} {found' =
             let d_j : distance_of found' (slice_index order' j) ≡ distance_of found (slice_index order j) = ap (distance_of found') at_j ∙ old_distance one (slice_index order j) seen_j in
             let d_k : distance_of found' (slice_index order' k) ≡ distance_of found (slice_index order k) = ap (distance_of found') at_k ∙ old_distance one (slice_index order k) seen_k in
             let roots : root_of found (slice_index order j) ≡ root_of found (slice_index order k) = sym (ap (root_of found') at_j ∙ old_root one (slice_index order j) seen_j) ∙ same
-                ∙ (ap (root_of found') at_k ∙ old_root one (slice_index order k) seen_k) in
+            ∙ (ap (root_of found') at_k ∙ old_root one (slice_index order k) seen_k) in
             let bound = walk.rising j k below less roots in omega arith)
         | inr last ↦ (let d_k : distance_of found' (slice_index order' k) ≡ distance = ap (distance_of found') last ∙ new_distance one in
             elim (place_cases one j (omega arith)) [
@@ -206,8 +210,12 @@ one_more edge n head {order = order} {order' = order'} {found = found} {found' =
                 distance = omega arith;
               })
           | inr past ↦ (let at : head ≡ k = omega arith in
-              record { seen = ap (is_found found') last ∙ ap is_some (at_new one); root = ap (λ i. root_of found' (slice_index order' i)) (sym at); distance = (let d : distance_of found' (slice_index order' k)
-                  ≡ distance_of found' (slice_index order' head) = ap (λ i. distance_of found' (slice_index order' i)) (sym at) in omega arith) })
+              record {
+                seen = ap (is_found found') last ∙ ap is_some (at_new one);
+                root = ap (λ i. root_of found' (slice_index order' i)) (sym at);
+                distance = (let d : distance_of found' (slice_index order' k)
+                    ≡ distance_of found' (slice_index order' head) = ap (λ i. distance_of found' (slice_index order' i)) (sym at) in omega arith);
+              })
         ]
       ];
     }
@@ -285,7 +293,7 @@ all_found edge n head order found walk whole v low = elim (cases_Bool (is_found 
       let long = length-range_with_len 0 n in
       let most = count_by-le-length (λ x. nat_eq x v || is_found found x) stations in
       let split = sum_by-same (λ x. cond (nat_eq x v || is_found found x) 1 0) (λ x. cond (nat_eq x v) 1 0 + cond (is_found found x) 1 0) stations
-          (λ x there. either_counts (nat_eq x v) (is_found found x) 1 (λ same. ap (is_found found) (eqb-true x v same) ∙ missing)) in
+      (λ x there. either_counts (nat_eq x v) (is_found found x) 1 (λ same. ap (is_found found) (eqb-true x v same) ∙ missing)) in
       let both = sum_by-plus (λ x. cond (nat_eq x v) 1 0) (λ x. cond (is_found found x) 1 0) stations in
       let single = sum_by-single (λ x. 1) 0 n v zero-le (omega arith) in
       absurd (omega arith))
@@ -333,23 +341,27 @@ pub root_can : (edge : ℕ → ℕ → Bool) (n head : ℕ) (order : List ℕ) (
 root_can edge n head order found walk past r is =
     let passes = found_passes (λ v. not (is_found found v)) (range_with_len 0 n) r is in
     let missing : is_found found r ≡ false = not_true (is_found found r) passes.0 in
-    let bound : r < 0 + n = below_range 0 n r passes.1 in
-    (missing, omega arith, record {
-      short = omega arith;
-      begins = λ at. refl;
-      goes_on = λ far. absurd (omega arith);
-      least = omega arith;
-      before = λ x low. elim (cases_lt x r) [
-        | inl less ↦ inr (not_false (is_found found x) (found_first (λ v. not (is_found found v)) 0 n r x is (omega arith) less))
-        | inr high ↦ inl (let same : x ≡ r = omega arith in same)
-      ];
-      rising = λ j low same. absurd (true≢false (sym (walk.before (slice_index order j) r (walk.listed j low) (omega arith)) ∙ missing));
-      queue = λ low. absurd (omega arith);
-    })
+    let bound : r < 0 + n = below_range 0 n r passes.1 in (
+      missing,
+      omega arith,
+      record {
+        short = omega arith;
+        begins = λ at. refl;
+        goes_on = λ far. absurd (omega arith);
+        least = omega arith;
+        before = λ x low. elim (cases_lt x r) [
+          | inl less ↦ inr (not_false (is_found found x) (found_first (λ v. not (is_found found v)) 0 n r x is (omega arith) less))
+          | inr high ↦ inl (let same : x ≡ r = omega arith in same)
+        ];
+        rising = λ j low same. absurd (true≢false (sym (walk.before (slice_index order j) r (walk.listed j low) (omega arith)) ∙ missing));
+        queue = λ low. absurd (omega arith);
+      },
+    )
   where
     not_true : (b : Bool) → not b ≡ true → b ≡ false
     not_true true h = absurd (true≢false (sym h))
     not_true false h = refl
+
     not_false : (b : Bool) → not b ≡ false → b ≡ true
     not_false true h = refl
     not_false false h = absurd (true≢false h)

@@ -8,7 +8,7 @@ pub bounds-words-from : goal.bounds-words-from
 bounds-words-from c =
     let blank : Place = record { is_member = false; root = 0; parent = None } in
     let up : slice_index_or (parents_in c.args.places.now) c.args.v None ≡ Some c.in-Some.u =
-        get_or-map (λ p. p.parent) c.args.places.now c.args.v blank None c.requires.station ∙ ap (λ k. (slice_index_or c.args.places.now k blank).parent) (sym c.from.ensures) ∙ c.in-Some.is in
+    get_or-map (λ p. p.parent) c.args.places.now c.args.v blank None c.requires.station ∙ ap (λ k. (slice_index_or c.args.places.now k blank).parent) (sym c.from.ensures) ∙ c.in-Some.is in
     let low = c.requires.parents c.args.v c.in-Some.u up in
     let count = c.requires.count in
     let same = ap length c.as_slice-words.ensures in
@@ -19,7 +19,7 @@ pub set-requires : goal.set-requires
 set-requires c =
     let blank : Place = record { is_member = false; root = 0; parent = None } in
     let up : slice_index_or (parents_in c.args.places.now) c.args.v None ≡ Some c.in-Some.u =
-        get_or-map (λ p. p.parent) c.args.places.now c.args.v blank None c.requires.station ∙ ap (λ k. (slice_index_or c.args.places.now k blank).parent) (sym c.from.ensures) ∙ c.in-Some.is in
+    get_or-map (λ p. p.parent) c.args.places.now c.args.v blank None c.requires.station ∙ ap (λ k. (slice_index_or c.args.places.now k blank).parent) (sym c.from.ensures) ∙ c.in-Some.is in
     let low = c.requires.parents c.args.v c.in-Some.u up in
     let count = c.requires.count in
     let at = c.from-in-Some-3.ensures in

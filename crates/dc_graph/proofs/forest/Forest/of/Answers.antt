@@ -14,7 +14,7 @@ honest_edges-requires c = ap length c.deref.ensures.value ∙ ap length c.in_ok-
 pub of-requires : goal.of-requires
 of-requires c =
     let flags : c.deref.result.now ≡ map (is_among c.args.c.now) (range_with_len 0 c.args.g.now.stations) =
-        c.deref.ensures.value ∙ c.in_ok-members.ensures ∙ ap (λ m. map (is_among c.args.c.now) (range_with_len 0 m)) c.stations-n.ensures.value in
+    c.deref.ensures.value ∙ c.in_ok-members.ensures ∙ ap (λ m. map (is_among c.args.c.now) (range_with_len 0 m)) c.stations-n.ensures.value in
     let table_of : IsTableOf (with_coalition c.args.g.now c.args.c.now) c.in_ok-table.table.items = c.in_ok-table.ensures c.args.c.now flags in
     subst (λ t. IsEdgeTable c.stations-n.result t) (sym c.deref-2.ensures.value)
     (edge_table_of (with_coalition c.args.g.now c.args.c.now) c.stations-n.result c.in_ok-table.table.items c.stations-n.ensures.value table_of)
@@ -25,7 +25,7 @@ places-requires-clause-members c = ap length c.deref-3.ensures.value ∙ ap leng
 pub invariant_of-result : goal.invariant_of-result
 invariant_of-result c =
     let flags : c.deref.result.now ≡ map (is_among c.args.c.now) (range_with_len 0 c.args.g.now.stations) =
-        c.deref.ensures.value ∙ c.in_ok-members.ensures ∙ ap (λ m. map (is_among c.args.c.now) (range_with_len 0 m)) c.stations-n.ensures.value in
+    c.deref.ensures.value ∙ c.in_ok-members.ensures ∙ ap (λ m. map (is_among c.args.c.now) (range_with_len 0 m)) c.stations-n.ensures.value in
     let table_of : IsTableOf (with_coalition c.args.g.now c.args.c.now) c.in_ok-table.table.items = c.in_ok-table.ensures c.args.c.now flags in
     let made : IsMade c.args.g.now c.args.c.now c.stations-n.result c.in_ok-table.table.items c.in_ok-walk.walk.order.items c.in_ok-walk.walk.found.items = record {
       graph = c.stations-n.ensures.graph;
@@ -35,18 +35,18 @@ invariant_of-result c =
       whole = c.in_ok-walk.ensures.whole;
     } in
     let made_so : c.in_ok-places.places.items ≡ map (place_found c.stations-n.result c.in_ok-members.members.items c.in_ok-table.table.items c.in_ok-walk.walk.found.items) (range_with_len 0 c.stations-n.result) =
-        c.in_ok-places.ensures
-        ∙ ap (λ ms. map (place_found c.stations-n.result ms c.deref-4.result.now c.deref-5.result.now) (range_with_len 0 c.stations-n.result)) c.deref-3.ensures.value
-        ∙ ap (λ t. map (place_found c.stations-n.result c.in_ok-members.members.items t c.deref-5.result.now) (range_with_len 0 c.stations-n.result)) c.deref-4.ensures.value
-        ∙ ap (λ f. map (place_found c.stations-n.result c.in_ok-members.members.items c.in_ok-table.table.items f) (range_with_len 0 c.stations-n.result)) c.deref-5.ensures.value in
+    c.in_ok-places.ensures
+    ∙ ap (λ ms. map (place_found c.stations-n.result ms c.deref-4.result.now c.deref-5.result.now) (range_with_len 0 c.stations-n.result)) c.deref-3.ensures.value
+    ∙ ap (λ t. map (place_found c.stations-n.result c.in_ok-members.members.items t c.deref-5.result.now) (range_with_len 0 c.stations-n.result)) c.deref-4.ensures.value
+    ∙ ap (λ f. map (place_found c.stations-n.result c.in_ok-members.members.items c.in_ok-table.table.items f) (range_with_len 0 c.stations-n.result)) c.deref-5.ensures.value in
     let is : IsForestOf (with_coalition c.args.g.now c.args.c.now) c.in_ok-places.places.items = forest_made c.args.g.now c.args.c.now c.stations-n.result c.in_ok-members.members.items c.in_ok-table.table.items
-        c.in_ok-walk.walk.order.items c.in_ok-walk.walk.found.items c.in_ok-places.places.items made c.in_ok-members.ensures made_so in
+    c.in_ok-walk.walk.order.items c.in_ok-walk.walk.found.items c.in_ok-places.places.items made c.in_ok-members.ensures made_so in
     order_made c.args.g.now c.args.c.now c.stations-n.result c.in_ok-table.table.items c.in_ok-walk.walk.order.items c.in_ok-walk.walk.found.items c.in_ok-places.places.items made is
 
 pub returns : goal.returns
 returns c =
     let flags : c.deref.result.now ≡ map (is_among c.args.c.now) (range_with_len 0 c.args.g.now.stations) =
-        c.deref.ensures.value ∙ c.in_ok-members.ensures ∙ ap (λ m. map (is_among c.args.c.now) (range_with_len 0 m)) c.stations-n.ensures.value in
+    c.deref.ensures.value ∙ c.in_ok-members.ensures ∙ ap (λ m. map (is_among c.args.c.now) (range_with_len 0 m)) c.stations-n.ensures.value in
     let table_of : IsTableOf (with_coalition c.args.g.now c.args.c.now) c.in_ok-table.table.items = c.in_ok-table.ensures c.args.c.now flags in
     let made : IsMade c.args.g.now c.args.c.now c.stations-n.result c.in_ok-table.table.items c.in_ok-walk.walk.order.items c.in_ok-walk.walk.found.items = record {
       graph = c.stations-n.ensures.graph;
@@ -56,10 +56,10 @@ returns c =
       whole = c.in_ok-walk.ensures.whole;
     } in
     let made_so : c.in_ok-places.places.items ≡ map (place_found c.stations-n.result c.in_ok-members.members.items c.in_ok-table.table.items c.in_ok-walk.walk.found.items) (range_with_len 0 c.stations-n.result) =
-        c.in_ok-places.ensures
-        ∙ ap (λ ms. map (place_found c.stations-n.result ms c.deref-4.result.now c.deref-5.result.now) (range_with_len 0 c.stations-n.result)) c.deref-3.ensures.value
-        ∙ ap (λ t. map (place_found c.stations-n.result c.in_ok-members.members.items t c.deref-5.result.now) (range_with_len 0 c.stations-n.result)) c.deref-4.ensures.value
-        ∙ ap (λ f. map (place_found c.stations-n.result c.in_ok-members.members.items c.in_ok-table.table.items f) (range_with_len 0 c.stations-n.result)) c.deref-5.ensures.value in
+    c.in_ok-places.ensures
+    ∙ ap (λ ms. map (place_found c.stations-n.result ms c.deref-4.result.now c.deref-5.result.now) (range_with_len 0 c.stations-n.result)) c.deref-3.ensures.value
+    ∙ ap (λ t. map (place_found c.stations-n.result c.in_ok-members.members.items t c.deref-5.result.now) (range_with_len 0 c.stations-n.result)) c.deref-4.ensures.value
+    ∙ ap (λ f. map (place_found c.stations-n.result c.in_ok-members.members.items c.in_ok-table.table.items f) (range_with_len 0 c.stations-n.result)) c.deref-5.ensures.value in
     let is : IsForestOf (with_coalition c.args.g.now c.args.c.now) c.in_ok-places.places.items = forest_made c.args.g.now c.args.c.now c.stations-n.result c.in_ok-members.members.items c.in_ok-table.table.items
-        c.in_ok-walk.walk.order.items c.in_ok-walk.walk.found.items c.in_ok-places.places.items made c.in_ok-members.ensures made_so in
+    c.in_ok-walk.walk.order.items c.in_ok-walk.walk.found.items c.in_ok-places.places.items made c.in_ok-members.ensures made_so in
     record { forest = is; stations = stations_of_forest (with_coalition c.args.g.now c.args.c.now) c.in_ok-places.places.items is }
