@@ -1,0 +1,12 @@
+//! Steerings: where two honest neighbours received differently, their pads are changed so that later
+//! sums become wanted ones.
+#![tactic(auto)]
+
+mod adding;
+mod changes;
+mod differences;
+mod first_pads;
+mod flattening;
+mod second_pads;
+
+pub use changes::{PadChanges, pad_changes};
