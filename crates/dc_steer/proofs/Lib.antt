@@ -1,3 +1,4 @@
 mod Lists
 mod Products
 mod NextChange
+mod WholeChanges

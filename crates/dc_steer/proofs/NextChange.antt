@@ -1,7 +1,7 @@
 -- The changes of second pads with one change more.
-use Rattle.std.proofs.Common.{◌≡◌, ℕ, zero, suc, ◌+◌, ◌-◌, ◌*◌, ◌/◌, ◌%◌, ◌<◌, ◌≤◌, ◌||◌, if◌then◌else◌, List, [], ◌∷◌, ◌++◌, length, get_or, replicate, sum_by, nat_lt, nat_le, refl, sym, ap, subst, ◌∙◌, arith, inl, inr, add-one, lt-ltb, le-ltb, le-leb}
+use Rattle.std.proofs.Common.{◌≡◌, ℕ, suc, ◌+◌, ◌-◌, ◌*◌, ◌/◌, ◌%◌, ◌<◌, ◌≤◌, ◌||◌, if◌then◌else◌, List, [], ◌∷◌, ◌++◌, length, get_or, replicate, sum_by, nat_lt, nat_le, sym, ap, subst, ◌∙◌, inl, inr, add-one, lt-ltb, le-ltb, le-leb}
 use Rattle.std.specs.List.{range_with_len}
-use Rattle.std.proofs.lemmas.Bool.{cases_lt, lt-leb}
+use Rattle.std.proofs.lemmas.Bool.{cases_lt}
 use Rattle.dc_spec.specs.Symbols.{symbol_sub, symbol_inverse}
 use Rattle.dc_steering_rules.specs.Steerings.{first_difference, steered_from, difference_at, steered_symbol, next_change, changes_up_to}
 use Rattle.dc_steer.proofs.Products.{wanted_later}

@@ -1,11 +1,10 @@
 -- Sums of products that grow by one received symbol, or by one change.
-use Rattle.std.proofs.Common.{◌≡◌, ◌≢◌, ℕ, zero, suc, ◌+◌, ◌-◌, ◌*◌, ◌/◌, ◌%◌, ◌<◌, ◌≤◌, min, cond, List, [], ◌∷◌, ◌++◌, length, get_or, sum_by, nat_eq, replicate, refl, sym, ap, ◌∙◌, arith, inl, inr, zero-le, eqb-true}
+use Rattle.std.proofs.Common.{◌≡◌, ◌≢◌, ℕ, ◌+◌, ◌-◌, ◌*◌, ◌/◌, ◌%◌, ◌<◌, ◌≤◌, min, cond, List, [], ◌∷◌, ◌++◌, length, get_or, sum_by, nat_eq, replicate, refl, sym, ap, ◌∙◌, arith, inl, inr, zero-le, eqb-true}
 use Rattle.std.specs.List.{range_with_len}
 use Rattle.std.proofs.Math.ListN.{get_or-eq_default}
 use Rattle.std.proofs.Math.Seq.{get_or-append_seam, get_or-append_right}
 use Rattle.std.proofs.lemmas.Bool.{cases_lt, cases_Bool, eqb-false}
 use Rattle.std.proofs.lemmas.List.{get_or_append_left, length-append, length-replicate}
-use Rattle.dc_spec.proofs.ListLemmas.{below_range}
 use Rattle.dc_spec.proofs.SumLemmas.{sum_by-plus, sum_by-single, sum_by-zero}
 use Rattle.dc_keys.proofs.KeySums.{sum_to-more, sum_to-same}
 

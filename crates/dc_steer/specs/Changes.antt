@@ -1,5 +1,5 @@
 -- The changes of the pads of a pair, from what its ends received.
-use Rattle.std.specs.Prelude.{ℕ, ◌+◌, ◌*◌, ◌/◌, ◌%◌, List, ◌++◌, length, replicate}
+use Rattle.std.specs.Prelude.{ℕ, ◌*◌, ◌/◌, ◌%◌, List, ◌++◌, length, replicate}
 use Rattle.dc_key_rules.specs.PairKeys.{symbols}
 use Rattle.dc_steering_rules.specs.Steerings.{Steering, first_difference, steered_from, second_changes, first_changes}
 

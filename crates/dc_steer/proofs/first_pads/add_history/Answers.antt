@@ -1,4 +1,4 @@
-use Rattle.std.proofs.Common.{◌≡◌, ℕ, ◌+◌, ◌*◌, ◌<◌, ◌≤◌, arith, refl}
+use Rattle.std.proofs.Common.{arith}
 use Rattle.dc_steer.proofs.Products.{received_more}
 use Rattle.dc_steer.proofs.first_pads.add_history.Goals as goal
 

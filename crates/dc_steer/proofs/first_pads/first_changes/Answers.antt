@@ -1,4 +1,4 @@
-use Rattle.std.proofs.Common.{◌≡◌, ℕ, List, length, rules, ap, sym, ◌∙◌, ◌%◌, arith}
+use Rattle.std.proofs.Common.{◌≡◌, ℕ, length, rules, ap, ◌∙◌}
 use Rattle.std.proofs.lemmas.List.FromFn.{fill_by_all}
 use Rattle.dc_spec.specs.Symbols.{symbol_sub}
 use Rattle.dc_steering_rules.specs.Steerings.{first_change}

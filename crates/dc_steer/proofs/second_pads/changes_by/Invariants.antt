@@ -1,4 +1,4 @@
-use Rattle.std.proofs.Common.{◌≡◌, ℕ, ◌+◌, ◌-◌, ◌*◌, ◌/◌, ◌<◌, ◌≤◌, ◌++◌, length, get_or, replicate, sum_by, vec_capacity}
+use Rattle.std.proofs.Common.{◌≡◌, ℕ, ◌-◌, ◌*◌, ◌/◌, ◌<◌, ◌≤◌, ◌++◌, length, get_or, replicate, sum_by, vec_capacity}
 use Rattle.std.specs.List.{All, range_with_len}
 use Rattle.dc_spec.specs.Words.{IsSymbol}
 use Rattle.dc_steering_rules.specs.Steerings.{difference_at, changes_up_to, steered_from}
