@@ -35,6 +35,17 @@ impl Model for PadChanges {
     ghost view = { λ c. record { round = c.round; symbol = c.symbol; first = c.first; second = c.second } };
 }
 
+/// The number of the first symbol in which two lists of as many words differ, and the number of their
+/// symbols where they are the same.
+pub fn first_differing(alloc: Global, cu: &Words, cv: &Words) -> Result<usize, NoMemory>
+    requires { length cv.now ≡ length cu.now }
+    ensures { IfOk result (λ p. p ≡ difference_of (symbols cu.now) (symbols cv.now)) }
+{
+    let cu = symbols_of(alloc, cu.as_slice())?;
+    let cv = symbols_of(alloc, cv.as_slice())?;
+    Ok(first_difference(&cu, &cv))
+}
+
 /// The changes of the pads of two neighbours, the smaller of which received `cu` and the larger `cv`,
 /// with which each word of the sum after the round of their first difference changes by the wanted
 /// word of that round. Both received 1 to 4096 words and not the same; there is a wanted word for

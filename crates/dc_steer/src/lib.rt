@@ -9,4 +9,4 @@ mod first_pads;
 mod flattening;
 mod second_pads;
 
-pub use changes::{PadChanges, pad_changes};
+pub use changes::{PadChanges, first_differing, pad_changes};
