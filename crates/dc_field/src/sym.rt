@@ -1,6 +1,7 @@
 //! A symbol: a number below 65537, with sum modulo 65537.
 
-ghost use Rattle.std.specs.Prelude.{◌≡◌, ◌+◌, ◌-◌, ◌*◌, ◌%◌, ◌<◌, SomeIff};
+ghost use Rattle.std.specs.Prelude.{◌≡◌, ◌+◌, ◌-◌, ◌*◌, ◌%◌, ◌<◌, IfSome, SomeIff};
+ghost use Rattle.dc_spec.specs.Symbols.{symbol_inverse};
 ghost use Rattle.dc_spec.specs.Words.{IsSymbol};
 
 use std::marker::Model;
@@ -79,4 +80,27 @@ impl Sym {
             number: (product % 65537) as u32,
         }
     }
+
+    /// The symbol that gives 1 when this one is multiplied by it, and None exactly at 0. It is the
+    /// power 65535, since each symbol but 0 has the power 65536 equal to 1. It is computed in the
+    /// same steps for every symbol, without a table.
+    pub fn inv(self) -> Option<Sym>
+        ensures value { SomeIff result (0 < self) (symbol_inverse self) }
+        ensures inverts { IfSome result (λ x. (self * x) % 65537 ≡ 1) }
+    {
+        let power = last_power(self);
+        if self.number == 0 { None } else { Some(power) }
+    }
+}
+
+/// The power 65535 of a symbol. Each step takes the exponent to twice the exponent and one more.
+#[tactic(auto, unfolding(dc_spec::specs::Symbols::power_below))]
+fn last_power(x: Sym) -> Sym
+    ensures { result ≡ symbol_inverse x }
+{
+    let mut power = Sym { number: 1 };
+    for _ in 0..16u8 {
+        power = power.mul(power).mul(x);
+    }
+    power
 }

@@ -23,6 +23,14 @@ fn gives<R: Abort>(rt: &R, x: u32, y: u32, due: [u32; 3]) -> Result<(), Fail> {
     Ok(())
 }
 
+/// Asserts the inverse of a symbol.
+fn inverts<R: Abort>(rt: &R, x: u32, due: Option<u32>) -> Result<(), Fail> {
+    let x = Sym::new(x).ok_or("it is a symbol")?;
+    let number = x.inv().map(|s: Sym| -> u32 { s.number() });
+    assert_eq!(rt; number, due, "{x:?}");
+    Ok(())
+}
+
 /// Asserts which number a text is.
 fn is_number<R: Abort>(rt: &R, text: &[u8], due: Option<u32>) {
     assert_eq!(rt; read_decimal(text), due);
@@ -44,6 +52,16 @@ fn sums_and_products(rt: HostRuntime) -> Result<(), Fail> {
     gives(&rt, 40000, 30000, [4463, 10000, 17530])?;
     gives(&rt, 2, 7, [9, 65532, 14])?;
     gives(&rt, 0, 0, [0, 0, 0])
+}
+
+#[test]
+fn inverses(rt: HostRuntime) -> Result<(), Fail> {
+    inverts(&rt, 0, None)?;
+    inverts(&rt, 1, Some(1))?;
+    inverts(&rt, 65536, Some(65536))?;
+    inverts(&rt, 2, Some(32769))?;
+    inverts(&rt, 3, Some(21846))?;
+    inverts(&rt, 65535, Some(32768))
 }
 
 #[test]

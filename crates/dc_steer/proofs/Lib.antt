@@ -1,0 +1,4 @@
+mod Lists
+mod Products
+mod NextChange
+mod WholeChanges

@@ -1,0 +1,5 @@
+//! Tests of steerings.
+#![tactic(auto)]
+
+#[cfg(test)]
+mod change_tests;
