@@ -1,3 +1,4 @@
+mod RangeSums
 mod Lists
 mod Products
 mod NextChange

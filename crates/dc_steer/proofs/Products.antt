@@ -6,7 +6,7 @@ use Rattle.std.proofs.Math.Seq.{get_or-append_seam, get_or-append_right}
 use Rattle.std.proofs.lemmas.Bool.{cases_lt, cases_Bool, eqb-false}
 use Rattle.std.proofs.lemmas.List.{get_or_append_left, length-append, length-replicate}
 use Rattle.dc_spec.proofs.SumLemmas.{sum_by-plus, sum_by-single, sum_by-zero}
-use Rattle.dc_keys.proofs.KeySums.{sum_to-more, sum_to-same}
+use Rattle.dc_steer.proofs.RangeSums.{sum_to-more, sum_to-same}
 
 -- with one received symbol more
 pub received_more : (y cu : List ℕ) (n k was now : ℕ) → (16 * (k / 16 + 1) ≤ n → now ≡ was + get_or y (n - k) 0 * get_or cu k 0)

@@ -1,5 +1,5 @@
 use Rattle.std.proofs.Common.{◌≡◌, ℕ, ◌+◌, ◌-◌, ◌*◌, ◌/◌, ◌<◌, ◌≤◌, List, length, get_or, take, drop, sym, ap, ◌∙◌, arith}
-use Rattle.dc_keys.proofs.KeySums.{pad_in_piece}
+use Rattle.dc_steer.proofs.RangeSums.{item_of_piece}
 use Rattle.dc_steer.proofs.first_pads.add_received.Goals as goal
 
 -- a sum with the product of a change of a piece of the changes
@@ -9,7 +9,7 @@ piece : (now was second : List ℕ) (n later k m received : ℕ) → later ≤ n
 piece now was second n later k m received le before lt added =
     let at : later + (n - later) ≡ n = omega arith in
     let from : later - k + (n - later) ≡ n - k = omega arith in
-    let change = pad_in_piece second m (later - k) (n - later) lt ∙ ap (λ (i : ℕ). get_or second i 0) from in
+    let change = item_of_piece second m (later - k) (n - later) lt ∙ ap (λ (i : ℕ). get_or second i 0) from in
     ap (λ (i : ℕ). get_or now i 0) (sym at) ∙ added ∙ ap (λ (i : ℕ). get_or was i 0 + get_or (take m (drop (later - k) second)) (n - later) 0 * received) at
     ∙ ap (λ (x : ℕ). get_or was n 0 + x * received) change
 
