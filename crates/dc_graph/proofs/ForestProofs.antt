@@ -1,8 +1,8 @@
 -- What a whole walk found is the forest of the key graph, and its order one for the sums.
-use Rattle.std.proofs.Common.{◌≡◌, ◌≢◌, ℕ, zero, suc, ◌+◌, ◌-◌, ◌*◌, ◌<◌, ◌≤◌, ◌==◌, ◌&&◌, ◌||◌, not, Bool, true, false, cond, nat_eq, find, List, [], ◌∷◌, length, map, sum_by, slice_index, slice_index_or, get_or, All, Option, Some, None, refl, sym, ap, subst, ◌∙◌, arith, inl, inr, eqb-true, eq-eqb, true≢false}
-use Rattle.std.proofs.Math.ListN.{get_or-eq_default, length-set}
-use Rattle.std.proofs.lemmas.Bool.{cases_Bool, cases_lt, and_parts}
-use Rattle.std.proofs.lemmas.List.FromFn.{length-map-range_with_len, get_or-map-range_with_len, length-range_with_len}
+use Rattle.std.proofs.Common.{◌≡◌, ℕ, ◌+◌, ◌-◌, ◌*◌, ◌<◌, ◌≤◌, ◌==◌, ◌&&◌, ◌||◌, not, Bool, true, false, cond, nat_eq, find, List, [], ◌∷◌, length, map, sum_by, slice_index, slice_index_or, Option, Some, None, refl, sym, ap, subst, ◌∙◌, arith, inl, inr, eqb-true, eq-eqb}
+use Rattle.std.proofs.Math.ListN.{length-set}
+use Rattle.std.proofs.lemmas.Bool.{cases_lt, and_parts}
+use Rattle.std.proofs.lemmas.List.FromFn.{length-map-range_with_len, get_or-map-range_with_len}
 use Rattle.std.proofs.lemmas.List.Elements.{All-from_get_or, All-weaker}
 use Rattle.std.proofs.lemmas.List.{ext_get_or, drop_all}
 use Rattle.std.specs.List.{range_with_len}
@@ -12,15 +12,15 @@ use Rattle.dc_spec.proofs.ListLemmas.{below_range, found_passes}
 use Rattle.dc_spec.proofs.SumLemmas.{sum_by-same}
 use Rattle.dc_spec.specs.Words.{IsWord, zero_word, word_add}
 use Rattle.dc_graph_rules.specs.Graphs.{KeyGraph, IsKeyGraph, has_edge, are_neighbours, is_joined}
-use Rattle.dc_graph_rules.specs.Forests.{root, parent, parents, distance, below_sum, below_sums}
+use Rattle.dc_graph_rules.specs.Forests.{root, parent, parents, below_sum, below_sums}
 use Rattle.dc_graph_rules.proofs.ForestLemmas.{rank_in, parents_ranked, neighbours-comm}
 use Rattle.dc_graph_rules.proofs.BelowLemmas.{honest_sums}
 use Rattle.dc_graph_rules.proofs.UpwardLemmas.{IsUpward, ArePartial, begins_upwards, upwards_step, upwards_done}
-use Rattle.dc_graph_rules.proofs.WalkLemmas.{IsNearer, AreDistances, roots_and_distances, find_same, parent_found, joined_by_roots}
+use Rattle.dc_graph_rules.proofs.WalkLemmas.{AreDistances, roots_and_distances, find_same, parent_found, joined_by_roots}
 use Rattle.dc_graph.specs.declared.place.Place.{Place}
 use Rattle.dc_graph.specs.declared.walk.Found.{Found}
 use Rattle.dc_graph.specs.Graph.{PlainGraph, IsGraph, IsEdge, with_coalition}
-use Rattle.dc_graph.specs.Walk.{edge_at, IsEdgeTable, IsTableOf, is_found, root_of, distance_of, IsNextTo, IsFoundFrom, IsWalk}
+use Rattle.dc_graph.specs.Walk.{edge_at, IsEdgeTable, IsTableOf, is_found, root_of, distance_of, IsNextTo, IsWalk}
 use Rattle.dc_graph.specs.Forest.{place_in, IsForestOf, parents_in, members_in, IsOrder, is_step_nearer, place_found, AreOwnWords, with_parent}
 use Rattle.dc_graph.proofs.WalkSteps.{all_found, found_below, place_found_at, order_within}
 

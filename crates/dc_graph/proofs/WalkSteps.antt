@@ -1,5 +1,5 @@
 -- A walk finds one station more, and goes on to the next place of its order.
-use Rattle.std.proofs.Common.{◌≡◌, ◌≢◌, ℕ, zero, suc, ◌+◌, ◌<◌, ◌≤◌, Bool, true, false, cond, ◌&&◌, ◌||◌, ◌⊎◌, not, nat_eq, find, is_some, Result, Ok, Err, List, [], ◌∷◌, ◌++◌, length, sum_by, slice_index, slice_index_or, slice_set, replicate, Option, Some, None, refl, sym, ap, subst, ◌∙◌, arith, inl, inr, eqb-true, eq-eqb, true≢false, zero-le, get_or-set_other, get_or-set_same, length-append}
+use Rattle.std.proofs.Common.{◌≡◌, ◌≢◌, ℕ, zero, suc, ◌+◌, ◌<◌, ◌≤◌, Bool, true, false, cond, ◌||◌, ◌⊎◌, not, nat_eq, find, is_some, Result, Ok, Err, List, [], ◌∷◌, ◌++◌, length, sum_by, slice_index, slice_index_or, slice_set, replicate, Option, Some, None, refl, sym, ap, subst, ◌∙◌, arith, inl, inr, eqb-true, eq-eqb, true≢false, zero-le, get_or-set_other, get_or-set_same, length-append}
 use Rattle.std.proofs.Math.ListN.{length-set, get_or-append, get_or-eq_default}
 use Rattle.std.proofs.Math.Seq.{get_or-append_seam}
 use Rattle.std.proofs.lemmas.List.Sums.{sum_by-cons, sum_by-append, count_by-le-length}
@@ -10,14 +10,13 @@ use Rattle.std.specs.Result.{OnOk}
 use Rattle.std.proofs.lemmas.List.{get_or-replicate, length-replicate}
 use Rattle.std.proofs.lemmas.List.FromFn.{length-range_with_len}
 use Rattle.std.proofs.lemmas.Option.{none-some}
-use Rattle.dc_spec.specs.Lists.{is_among}
 use Rattle.dc_spec.proofs.ListLemmas.{found_passes, below_range}
 use Rattle.dc_graph_rules.proofs.ForestLemmas.{either_counts}
 use Rattle.dc_graph_rules.proofs.DistanceLemmas.{found_by}
 use Rattle.dc_graph_rules.proofs.ParentLemmas.{found_first}
 use Rattle.dc_spec.proofs.SumLemmas.{sum_by-same, sum_by-plus, sum_by-zero, sum_by-single}
 use Rattle.dc_graph.specs.declared.walk.Found.{Found}
-use Rattle.dc_graph.specs.Walk.{is_found, root_of, distance_of, IsNextTo, IsFoundFrom, IsWalk}
+use Rattle.dc_graph.specs.Walk.{is_found, root_of, distance_of, IsNextTo, IsWalk}
 
 -- the stations stay as they are but one that was not found
 pub record IsOneMore (order order' : List ℕ) (found found' : List (Option Found)) (w root distance : ℕ) : Type 0 where

@@ -1,5 +1,5 @@
 -- A breadth-first walk of the honest parts: what it knows after some stations were looked at.
-use Rattle.std.specs.Prelude.{ℕ, ◌+◌, ◌*◌, ◌<◌, ◌≤◌, ◌≡◌, List, length, sum_by, slice_index, slice_index_or, Bool, true, false, is_some, Option, Some, None, if◌then◌else◌}
+use Rattle.std.specs.Prelude.{ℕ, ◌+◌, ◌*◌, ◌<◌, ◌≤◌, ◌≡◌, List, length, sum_by, slice_index, slice_index_or, Bool, true, false, is_some, Option, None, if◌then◌else◌}
 use Rattle.std.specs.List.{range_with_len}
 use Rattle.std.specs.Option.{option_map_or}
 use Rattle.dc_graph_rules.specs.Graphs.{KeyGraph, are_neighbours}

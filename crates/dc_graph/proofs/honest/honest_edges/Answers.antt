@@ -1,7 +1,5 @@
-use Rattle.std.proofs.Common.{◌≡◌, ◌∙◌, ◌++◌, length, drop, sym, ap, subst}
+use Rattle.std.proofs.Common.{◌≡◌, ◌∙◌, length, drop, sym}
 use Rattle.std.proofs.Math.Seq.{take-append_seam}
-use Rattle.dc_graph.specs.Graph.{with_coalition}
-use Rattle.dc_graph.specs.Walk.{IsTableOf}
 use Rattle.dc_graph.proofs.ForestProofs.{table_is}
 use Rattle.dc_graph.proofs.honest.honest_edges.Goals as goal
 

@@ -1,6 +1,5 @@
-use Rattle.std.proofs.Common.{◌≡◌, ◌∙◌, ◌++◌, ◌∷◌, [], map, sym, ap, arith}
+use Rattle.std.proofs.Common.{◌∙◌, sym, arith}
 use Rattle.std.proofs.lemmas.List.FromFn.{map-range_with_len_more}
-use Rattle.std.specs.List.{range_with_len}
 use Rattle.dc_graph.specs.Forest.{place_found}
 use Rattle.dc_graph.proofs.place.places.Goals as goal
 

@@ -1,4 +1,4 @@
-use Rattle.std.proofs.Common.{◌≡◌, ◌∙◌, ◌<◌, Some, None, false, slice_index_or, length, arith, ap, sym}
+use Rattle.std.proofs.Common.{◌≡◌, ◌∙◌, Some, None, false, slice_index_or, length, arith, ap, sym}
 use Rattle.std.proofs.lemmas.List.{get_or-map}
 use Rattle.dc_graph.specs.declared.place.Place.{Place}
 use Rattle.dc_graph.specs.Forest.{parents_in}

@@ -1,4 +1,4 @@
-use Rattle.std.proofs.Common.{◌≡◌, ◌∙◌, ◌+◌, ◌-◌, ◌<◌, None, slice_index, slice_index_or, length, arith, refl, ap, sym, subst}
+use Rattle.std.proofs.Common.{◌∙◌, ◌+◌, ◌-◌, ◌<◌, None, slice_index, slice_index_or, length, arith, refl, ap, sym, subst}
 use Rattle.dc_graph_rules.specs.Forests.{parents}
 use Rattle.dc_graph_rules.proofs.UpwardLemmas.{ArePartial}
 use Rattle.dc_graph.specs.Forest.{parents_in}

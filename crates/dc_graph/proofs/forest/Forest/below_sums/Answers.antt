@@ -1,4 +1,4 @@
-use Rattle.std.proofs.Common.{◌≡◌, ◌∙◌, sym, subst}
+use Rattle.std.proofs.Common.{◌∙◌, sym, subst}
 use Rattle.dc_graph.specs.Forest.{IsForestOf, AreOwnWords}
 use Rattle.dc_graph.proofs.ForestProofs.{sums_done}
 use Rattle.dc_graph.proofs.forest.Forest.below_sums.Goals as goal

@@ -1,5 +1,4 @@
-use Rattle.std.proofs.Common.{◌≡◌, ◌∙◌, ap, nat_eq, get_or, slice_index_or}
-use Rattle.dc_graph_rules.specs.Forests.{root}
+use Rattle.std.proofs.Common.{◌≡◌, ◌∙◌, ap, nat_eq, slice_index_or}
 use Rattle.dc_graph.proofs.ForestProofs.{joined_at}
 use Rattle.dc_graph.proofs.forest.Forest.joined.Goals as goal
 

@@ -1,4 +1,4 @@
-use Rattle.std.proofs.Common.{◌≡◌, ◌∙◌, ◌≤◌, ◌<◌, not, find, Some, None, length, sym, ap, arith}
+use Rattle.std.proofs.Common.{◌≡◌, ◌∙◌, ◌≤◌, not, find, Some, None, length, sym, ap, arith}
 use Rattle.std.specs.List.{range_with_len}
 use Rattle.dc_graph.specs.Walk.{edge_at, is_found}
 use Rattle.dc_graph.proofs.WalkSteps.{IsOneMore, root_can, none_missing, one_more, on_ok}

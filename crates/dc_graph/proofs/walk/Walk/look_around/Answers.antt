@@ -1,4 +1,4 @@
-use Rattle.std.proofs.Common.{◌≡◌, ◌∙◌, ◌<◌, ◌≤◌, true, ℕ, inl, inr, slice_index, sym, ap, subst, arith}
+use Rattle.std.proofs.Common.{◌≡◌, ◌∙◌, true, ℕ, inl, inr, slice_index, sym, ap, subst, arith}
 use Rattle.std.proofs.lemmas.Bool.{cases_lt}
 use Rattle.dc_graph.specs.Walk.{edge_at, IsNextTo}
 use Rattle.dc_graph.proofs.WalkSteps.{next_place}

@@ -1,8 +1,8 @@
-use Rattle.std.proofs.Common.{◌≡◌, ◌∙◌, ◌+◌, ◌*◌, ◌≤◌, ◌<◌, is_some, true, false, Some, None, length, slice_index, slice_index_or, slice_set, refl, sym, ap, subst, arith, true≢false}
+use Rattle.std.proofs.Common.{◌≡◌, ◌∙◌, ◌+◌, ◌*◌, ◌<◌, is_some, true, false, Some, None, slice_index, slice_index_or, slice_set, refl, sym, ap, subst, arith, true≢false}
 use Rattle.std.specs.Option.{option_map_or}
 use Rattle.dc_graph.specs.Walk.{edge_at, is_found, distance_of}
 use Rattle.dc_graph.proofs.Tables.{place_within}
-use Rattle.dc_graph.proofs.WalkSteps.{IsOneMore, CanBeFound, neighbour_can, one_more, on_ok, found_below, found_next, order_within, any_default}
+use Rattle.dc_graph.proofs.WalkSteps.{IsOneMore, neighbour_can, one_more, on_ok, found_below, found_next, order_within, any_default}
 use Rattle.dc_graph.proofs.walk.Walk.reach.Goals.{then-not-is_edge-via-then-not-is_edge, then-not-is_edge-via-else-not-is_edge+then-is_some}
 use Rattle.dc_graph.proofs.walk.Walk.reach.Goals as goal
 

@@ -1,5 +1,3 @@
-use Rattle.std.proofs.Common.{◌≡◌, sym, ◌∙◌, ap, subst, replicate, None}
-use Rattle.dc_graph.specs.Walk.{IsWalk}
 use Rattle.dc_graph.proofs.WalkSteps.{no_walk}
 use Rattle.dc_graph.proofs.walk.Walk.start.Goals as goal
 
