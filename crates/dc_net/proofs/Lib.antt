@@ -16,3 +16,4 @@ pub mod Finishing
 pub mod RunIs
 pub mod TrialLists
 pub mod TrialAgrees
+pub mod ChangedNets

@@ -9,3 +9,4 @@ pub mod WordList
 pub mod Rows
 pub mod Run
 pub mod TrialNets
+pub mod Changed

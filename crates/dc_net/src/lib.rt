@@ -2,6 +2,7 @@
 #![tactic(auto)]
 
 mod book;
+mod changed;
 mod checked_net;
 mod ends;
 mod fault;
