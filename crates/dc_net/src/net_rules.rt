@@ -39,9 +39,16 @@ fn note_streams(streams: &[Option<Stream>])
     ensures { All KeepsStream streams.now }
 {
     for place in streams {
-        if let Some(stream) = place {
-            note_stream(stream);
-        }
+        note_place(place);
+    }
+}
+
+/// The same of the stream of one station, where it has one.
+fn note_place(place: &Option<Stream>)
+    ensures { KeepsStream place.now }
+{
+    if let Some(stream) = place {
+        note_stream(stream);
     }
 }
 
