@@ -30,6 +30,11 @@ READ_SEEDS = {
     "dc_keyfile.specs.SeedReading": "seed_pair_of seeds_after_head seeds_from_bytes",
     "dc_formats.specs.SeedFile": "seeds_bytes",
 }
+EXPAND_SEEDS = {
+    "rand_core.specs.Steps": "u32_at",
+    "rand_chacha.specs.Block": "quarter_round column_round diagonal_round double_rounds block_word",
+    "dc_keyfile.specs.Generator": "element_at expanded_pair",
+}
 READ_STREAMS = {
     "std.specs.Fmt": "digits",
     "dc_stream.specs.Reading": "stream_fault=at_line stream_from_bytes",
@@ -202,7 +207,7 @@ def seed_file(data):
 
 
 def seeds(case):
-    """What both readers read of a key file of either version, and what is written of its seeds. Pads that seeds give are not computed here."""
+    """What both readers read of a key file of either version, and what is written of its seeds. Its pads are not computed here."""
     data = bytes.fromhex(case["bytes"])
     claims = [read_claim("seeds_from_bytes", READ_SEEDS, data, case["seeds_fault"], seed_file)]
     if case["seeds_fault"] is None:
@@ -212,6 +217,23 @@ def seeds(case):
     if case["keys_fault"] is None and not all(map(has_ends, pairs_of(data), case["pairs"])):
         raise ValueError("the pads of the line are not those of its file")
     return [*claims, read_claim("keys_from_bytes", READ_SEEDS, data, case["keys_fault"], key_file)]
+
+
+def seeds_expanded(case):
+    """The first and the last four pads of both lists that each seed of a key file gives."""
+    if case["seeds_fault"] is not None:
+        return None
+    data = bytes.fromhex(case["bytes"])
+    symbols_of_session = 16 * big_endian(data, 6, 2)
+    claims = []
+    for place, due in enumerate(case["pairs"]):
+        at = 12 + 36 * place
+        seed_pair = record(u=due["u"], v=due["v"], seed=byte_list(data[at + 4 : at + 36].hex()))
+        for name in ["a", "b"]:
+            pads = f"(expanded_pair {symbols_of_session} {seed_pair}).{name}"
+            claims.append(f"take 4 {pads} ≡ {numbers(due[f'{name}_first'])}")
+            claims.append(f"drop {symbols_of_session - 4} {pads} ≡ {numbers(due[f'{name}_last'])}")
+    return claims
 
 
 def unchecked_file(case):
@@ -225,12 +247,13 @@ def unchecked_file(case):
 # what of a line no kind here checks
 UNCHECKED = {
     "files": unchecked_file,
-    "seeds": lambda case: "the pads that seeds give are not computed" if case["seeds_fault"] is None else None,
+    "seeds": lambda case: "the pads between the first and the last four of a list are not computed" if case["seeds_fault"] is None else None,
 }
 
 OPENED_HEAD = "head_of head_from_bytes ends_fault pairs_of body_of"
 OPENED_KEYS = f"{OPENED_HEAD} pads_of padded pair_of keys_after_head pads_from_bytes keys_from_bytes"
 OPENED_SEEDS = f"{OPENED_KEYS} seed_pair_of seeds_after_head seeds_from_bytes"
+OPENED_GENERATOR = "element_at u32_at quarter_round column_round diagonal_round double_rounds block_word"
 
 KINDS = {
     "transcripts_written": Kind("files", WRITING, "word_of", written("transcript"), 100),
@@ -249,4 +272,5 @@ KINDS = {
     "wanted_read": Kind("files", READ_WANTED, "word_of wanted_from_bytes", read("wanted", "wanted_from_bytes", READ_WANTED), 100),
     "scripts2": Kind("scripts2", {**READ_SCRIPTS, **WRITING}, "digits word_of script_from_bytes", scripts2, 50),
     "seeds": Kind("seeds", READ_SEEDS, OPENED_SEEDS, seeds, 50),
+    "seeds_expanded": Kind("seeds", EXPAND_SEEDS, OPENED_GENERATOR, seeds_expanded, 5),
 }

@@ -29,34 +29,34 @@ fn check<R: Threads + Sync + AllocGlobal + Abort>(
     Ok(())
 }
 
-/// The summary of a trial of 256 stations, of which most stay pending.
-const MANY_STATIONS: &[u8] = b"trial 7 256 64
-short 39
-long 9
-pending 473 7
-sum 0027d0b5b8024ad03de30341d04c890437c03dab01e790250f02ba60215c021a70396203d800346b
+/// The summary of a trial of 16 stations.
+const SIXTEEN: &[u8] = b"trial 3 16 64
+short 32
+long 1
+pending 0 0
+sum 0006402a9f02e5602a65037a0029890319902dbb0364702dbb0376602c2b02e500362f0301803587
 ";
 
-/// The summary of a trial of 64 stations that all send all that they have.
-const MANY_WORDS: &[u8] = b"trial 7 64 512
-short 128
-long 4
+/// The summary of a trial of 17 stations, two of which have a message.
+const SEVENTEEN: &[u8] = b"trial 4 17 64
+short 34
+long 2
 pending 0 0
-sum 002180e8c7001fe0020001a0e007d6021130022c0e3640f8310f07d0ff61013b400e7f012400086d
+sum 0007202e4902eb8040fe03096036d10380003c6e0327a0339503a810399c03d120384f0351503a2c
 ";
 
 #[test]
 fn a_summary_is_the_same_for_each_number_of_workers(rt: HostRuntime) -> Result<(), Fail> {
-    let words = ["trial", "7", "256", "64", "--workers", "1"];
-    check(&rt, &words, 1000, 0, MANY_STATIONS, b"")?;
-    let words = ["trial", "7", "256", "64", "--workers", "8"];
-    check(&rt, &words, 1000, 0, MANY_STATIONS, b"")?;
+    let words = ["trial", "3", "16", "64", "--workers", "1"];
+    check(&rt, &words, 1000, 0, SIXTEEN, b"")?;
+    let words = ["trial", "3", "16", "64", "--workers", "8"];
+    check(&rt, &words, 1000, 0, SIXTEEN, b"")?;
     Ok(())
 }
 
 #[test]
 fn all_stations_send_all(rt: HostRuntime) -> Result<(), Fail> {
-    check(&rt, &["trial", "7", "64", "512"], 1000, 0, MANY_WORDS, b"")?;
+    check(&rt, &["trial", "4", "17", "64"], 1000, 0, SEVENTEEN, b"")?;
     Ok(())
 }
 
