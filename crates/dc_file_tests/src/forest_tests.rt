@@ -55,9 +55,10 @@ fn sums_are<R: AllocGlobal + Abort>(rt: &R, f: &Forest, demands: &[u32], due: &[
     assert!(rt; given.as_slice().len() == n);
     assert!(rt; out.as_slice().len() == n);
     f.below_sums(&given, &mut out);
-    assert!(rt; due.len() == n);
-    for v in 0..n {
-        assert!(rt; out.as_slice()[v].numbers() == word(due[v]).numbers());
+    assert_eq!(rt; due.len(), n);
+    assert_eq!(rt; out.as_slice().len(), n);
+    for (sum, number) in out.as_slice().iter().zip(due.iter()) {
+        assert_eq!(rt; *sum.numbers(), *word(*number).numbers());
     }
 }
 
