@@ -120,6 +120,7 @@ impl Gate for Passed {
 }
 
 /// A piece that reports where its word is computed before it passed the gate.
+#[derive(Clone, Copy)]
 struct Watched<'a> {
     passed: &'a AtomicBool,
     early: &'a AtomicBool,
