@@ -100,11 +100,22 @@ fn frames_in_pieces(rt: HostRuntime) {
     reads_two(&rt, 69);
 }
 
+/// All bytes but the last.
+fn without_last(bytes: &[u8]) -> &[u8] {
+    match bytes {
+        [front @ .., _] => front,
+        [] => bytes,
+    }
+}
+
 #[test]
 fn an_unfinished_frame(rt: HostRuntime) {
     let mut reader = Reader::new();
     let bytes = word_frame(3);
-    assert_eq!(rt; feed(&mut reader, &bytes[..68], 69), Ok(b"".as_slice()));
+    assert_eq!(rt;
+        feed(&mut reader, without_last(&bytes), 69),
+        Ok(b"".as_slice())
+    );
     assert!(rt; reader.take().is_none());
     assert_eq!(rt; (reader.need(), reader.fed()), (1, 68));
 }

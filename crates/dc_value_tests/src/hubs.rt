@@ -45,9 +45,10 @@ fn completes<R: Abort>(
     w: &Word,
     due: &Word,
 ) -> Result<(), Fail> {
-    match core.take(at.0, at.1, w) {
+    let answer = core.take(at.0, at.1, w);
+    match &answer {
         Ok(HubStep::Complete { sum }) => {
-            same(rt, &sum, due);
+            same(rt, sum, due);
             Ok(())
         }
         _ => Err("another answer")?,
@@ -56,11 +57,12 @@ fn completes<R: Abort>(
 
 /// The fault of a word, as a kind and the number or the first symbol that it has.
 fn refused(core: &mut HubCore, at: (u16, u16), w: &Word) -> (u8, u32) {
-    match core.take(at.0, at.1, w) {
-        Err(HubFault::Station { seen }) => (0, u32::from(seen)),
+    let answer = core.take(at.0, at.1, w);
+    match &answer {
+        Err(HubFault::Station { seen }) => (0, u32::from(*seen)),
         Err(HubFault::Over) => (1, 0),
-        Err(HubFault::Old { now }) => (2, u32::from(now)),
-        Err(HubFault::Ahead { now }) => (3, u32::from(now)),
+        Err(HubFault::Old { now }) => (2, u32::from(*now)),
+        Err(HubFault::Ahead { now }) => (3, u32::from(*now)),
         Err(HubFault::Repeated { kept }) => (4, kept.numbers()[0]),
         Ok(_) => (5, 0),
     }
