@@ -12,7 +12,7 @@ use Rattle.dc_edge.specs.declared.fault.Failed.{Failed}
 use Rattle.dc_formats.specs.WordLines.{station_word_line, items_of_round}
 use Rattle.dc_net_rules.specs.Runs.{honest_stations}
 use Rattle.dc_run_texts.specs.View.{delivery_line, published_lines, received_lines, round_text}
-use Rattle.dc_view.proofs.PutSoFar.{PutSoFar, PutSoFar-then, PutSoFar-stops}
+use Rattle.dc_print.proofs.PutSoFar.{PutSoFar, PutSoFar-then, PutSoFar-stops}
 
 -- the number of a round and its published words
 abbrev pub published_piece : ℕ → List (List ℕ) → List ℕ

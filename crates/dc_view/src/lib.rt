@@ -1,10 +1,7 @@
 //! Printed texts: the words of a session, the view and the logs of a run.
 #![tactic(auto)]
 
-mod filling;
-mod gathering;
 mod honest;
-mod lines;
 mod logs;
 mod net_text;
 mod pads;

@@ -8,12 +8,12 @@ ghost use Rattle.dc_net_rules.specs.Runs.{honest_stations, run_of};
 ghost use Rattle.dc_run_texts.specs.Logs.{honest_text, log_line, logs_text, pending_line, sent_line, station_text};
 ghost use Rattle.dc_station.specs.StandsFor.{StandsFor};
 ghost use Rattle.dc_station_rules.specs.Stations.{log_of, pending_counts, sent_of};
-ghost use Rattle.dc_view.specs.Gathering.{Gathers};
+ghost use Rattle.dc_print.specs.Gathering.{Gathers};
 
-use crate::gathering::{gather_number, gather_number_line, gather_payload_line};
 use crate::honest::honest_of;
 use dc_edge::{Failed, Sink};
 use dc_net::{CheckedNet, Played};
+use dc_print::{gather_number, gather_number_line, gather_payload_line};
 use dc_station::{Log, Pending, Station};
 
 /// How many bytes are gathered before they are put.

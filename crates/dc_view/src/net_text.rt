@@ -6,13 +6,12 @@ ghost use Rattle.dc_spec.specs.Lists.{is_among};
 ghost use Rattle.dc_spec.specs.Text.{line};
 ghost use Rattle.dc_edge.specs.Sink.{Puts};
 ghost use Rattle.dc_run_texts.specs.View.{edge_line};
-ghost use Rattle.dc_view.specs.Filling.{Fills};
+ghost use Rattle.dc_print.specs.Filling.{Fills};
 
-use crate::filling::fill_bytes;
-use crate::lines::{LINE_BYTES, fill_numbers_line};
 use crate::pieces::{fill_edges, fill_members};
 use dc_edge::{Failed, Sink};
 use dc_graph::Coalition;
+use dc_print::{LINE_BYTES, fill_bytes, fill_numbers_line};
 
 /// How many lines one piece has at most.
 const LINES_AT_ONCE: usize = 256;

@@ -7,14 +7,14 @@ ghost use Rattle.dc_spec.specs.Words.{IsSymbol};
 ghost use Rattle.dc_formats.specs.WordLines.{pair_word_line, items_of_round};
 ghost use Rattle.dc_edge.specs.Sink.{Puts};
 ghost use Rattle.dc_run_texts.specs.View.{pad_lines, pair_lines};
-ghost use Rattle.dc_view.specs.Filling.{Fills};
+ghost use Rattle.dc_print.specs.Filling.{Fills};
 ghost use Rattle.dc_view.specs.Pads.{HasPads, known_lines};
 
-use crate::lines::{LINE_BYTES, fill_pair_line};
 use dc_edge::{Failed, Sink};
 use dc_field::{Sym, Word};
 use dc_graph::Coalition;
 use dc_keys::{KeyFile, PairKey};
+use dc_print::{LINE_BYTES, fill_pair_line};
 
 /// How many lines one piece has at most.
 const LINES_AT_ONCE: u16 = 256;

@@ -8,11 +8,11 @@ ghost use Rattle.dc_spec.specs.Text.{line};
 ghost use Rattle.dc_spec.specs.Words.{IsSymbol};
 ghost use Rattle.dc_formats.specs.WordLines.{station_word_line, pair_word_line, items_of_round};
 ghost use Rattle.dc_run_texts.specs.View.{edge_line};
-ghost use Rattle.dc_view.specs.Filling.{Fills};
+ghost use Rattle.dc_print.specs.Filling.{Fills};
 
-use crate::lines::{LINE_BYTES, fill_number_line, fill_numbers_line, fill_station_line};
 use dc_field::Word;
 use dc_graph::Coalition;
+use dc_print::{LINE_BYTES, fill_number_line, fill_numbers_line, fill_station_line};
 
 /// The words of a round, each with its station's number.
 pub(crate) fn fill_published(buffer: &mut [u8], at: usize, words: &[Word]) -> usize

@@ -7,15 +7,14 @@ ghost use Rattle.dc_edge.specs.Sink.{Puts};
 ghost use Rattle.dc_formats.specs.WordLines.{station_word_line, items_of_round};
 ghost use Rattle.dc_net_rules.specs.Runs.{honest_stations};
 ghost use Rattle.dc_run_texts.specs.View.{delivery_line, round_text};
-ghost use Rattle.dc_view.specs.Filling.{Fills};
+ghost use Rattle.dc_print.specs.Filling.{Fills};
 
-use crate::filling::fill_bytes;
 use crate::honest::{STATIONS, honest_of};
-use crate::lines::{LINE_BYTES, fill_number_line, fill_word_line};
 use crate::pieces::{fill_published, fill_received};
 use dc_edge::{Failed, Sink};
 use dc_field::Word;
 use dc_net::{Net, Played};
+use dc_print::{LINE_BYTES, fill_bytes, fill_number_line, fill_word_line};
 use dc_script::{Delivery, Round, Script};
 
 /// Puts all rounds of a run, two pieces a round.

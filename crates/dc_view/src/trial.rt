@@ -7,12 +7,12 @@ ghost use Rattle.dc_spec.specs.Words.{word_sum};
 ghost use Rattle.dc_edge.specs.Sink.{Puts};
 ghost use Rattle.dc_run_texts.specs.Logs.{pending_line};
 ghost use Rattle.dc_run_texts.specs.Trial.{first_log, longs_in, shorts_in, trial_line, trial_text};
-ghost use Rattle.dc_view.specs.Filling.{Fills};
+ghost use Rattle.dc_print.specs.Filling.{Fills};
 
-use crate::filling::fill_bytes;
 use dc_edge::{Failed, Sink};
 use dc_field::{Word, word_text};
 use dc_net::Played;
+use dc_print::fill_bytes;
 use dc_station::{Log, Pending};
 use itoa::Buffer;
 

@@ -3,11 +3,11 @@
 ghost use Rattle.std.specs.Prelude.{◌+◌, ◌*◌, ◌≤◌, length};
 ghost use Rattle.dc_spec.specs.Text.{words_text};
 ghost use Rattle.dc_edge.specs.Sink.{Puts};
-ghost use Rattle.dc_view.specs.Filling.{Fills};
+ghost use Rattle.dc_print.specs.Filling.{Fills};
 
-use crate::lines::fill_word_line;
 use dc_edge::{Failed, Sink};
 use dc_field::{Word, Words};
+use dc_print::fill_word_line;
 
 /// How many lines one piece has at most.
 const LINES_AT_ONCE: usize = 256;

@@ -3,7 +3,7 @@ use Rattle.std.specs.List.{enumerate_from}
 use Rattle.std.proofs.lemmas.List.{take_all}
 use Rattle.std.proofs.lemmas.List.FromFn.{length-enumerate_from}
 use Rattle.dc_run_texts.specs.Logs.{honest_text}
-use Rattle.dc_view.proofs.GatherLemmas.{Gathers-more, Gathers-more-stops}
+use Rattle.dc_print.proofs.GatherLemmas.{Gathers-more, Gathers-more-stops}
 use Rattle.dc_view.proofs.ListSteps.{get_or-enumerate}
 use Rattle.dc_view.proofs.logs.gather_honest.Goals as goal
 

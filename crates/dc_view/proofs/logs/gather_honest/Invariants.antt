@@ -1,7 +1,7 @@
 use Rattle.std.proofs.Common.{take, Ok}
 use Rattle.std.specs.List.{flat_map, enumerate_from}
 use Rattle.dc_run_texts.specs.Logs.{honest_text}
-use Rattle.dc_view.specs.Gathering.{Gathers}
+use Rattle.dc_print.specs.Gathering.{Gathers}
 use Rattle.dc_view.proofs.logs.gather_honest.Given as goal
 
 -- the log texts of the stations so far are gathered

@@ -1,7 +1,7 @@
 use Rattle.std.proofs.Common.{take, Ok}
 use Rattle.std.specs.List.{flat_map}
 use Rattle.dc_run_texts.specs.Logs.{log_line}
-use Rattle.dc_view.specs.Gathering.{Gathers}
+use Rattle.dc_print.specs.Gathering.{Gathers}
 use Rattle.dc_view.proofs.logs.gather_log.Given as goal
 
 -- the lines of the entries so far are gathered

@@ -4,7 +4,7 @@ use Rattle.dc_spec.specs.Entries.{entry_bytes}
 use Rattle.dc_spec.specs.Text.{line}
 use Rattle.dc_formats.specs.TextFile.{hex_text}
 use Rattle.dc_station.specs.Logs.{entry_times}
-use Rattle.dc_view.proofs.GatherLemmas.{Gathers-then, Gathers-stops}
+use Rattle.dc_print.proofs.GatherLemmas.{Gathers-then, Gathers-stops}
 use Rattle.dc_view.proofs.EntryLines.{entry_there, log_line-short, log_line-long}
 use Rattle.dc_view.proofs.logs.gather_log_line.Goals as goal
 

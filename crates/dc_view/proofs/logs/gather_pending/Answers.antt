@@ -1,7 +1,7 @@
 use Rattle.std.proofs.Common.{◌++◌, take, rules}
 use Rattle.std.specs.Prelude.{codes, decimal}
 use Rattle.dc_spec.specs.Text.{line}
-use Rattle.dc_view.proofs.GatherLemmas.{Gathers-then, Gathers-stops}
+use Rattle.dc_print.proofs.GatherLemmas.{Gathers-then, Gathers-stops}
 use Rattle.dc_view.proofs.EntryLines.{pending_line-parts}
 use Rattle.dc_view.proofs.logs.gather_pending.Goals as goal
 

@@ -1,7 +1,7 @@
 use Rattle.std.proofs.Common.{[], Ok, rules, arith}
 use Rattle.dc_spec.specs.Entries.{long}
 use Rattle.dc_run_texts.specs.Logs.{sent_line}
-use Rattle.dc_view.proofs.GatherLemmas.{Gathers-more, Gathers-more-stops}
+use Rattle.dc_print.proofs.GatherLemmas.{Gathers-more, Gathers-more-stops}
 use Rattle.dc_view.proofs.logs.gather_sent.Goals as goal
 
 pub returns-in_err-end : goal.returns-in_err-end

@@ -3,7 +3,7 @@ use Rattle.std.specs.Prelude.{codes, decimal}
 use Rattle.std.specs.List.{flat_map}
 use Rattle.dc_spec.specs.Text.{line}
 use Rattle.dc_run_texts.specs.Logs.{log_line, sent_line, pending_line}
-use Rattle.dc_view.proofs.GatherLemmas.{Gathers-then, Gathers-stops}
+use Rattle.dc_print.proofs.GatherLemmas.{Gathers-then, Gathers-stops}
 use Rattle.dc_view.proofs.logs.gather_station.Goals as goal
 
 pub returns-in_err-end : goal.returns-in_err-end

@@ -1,4 +1,4 @@
-use Rattle.dc_view.proofs.GatherLemmas.{Puts-kept}
+use Rattle.dc_print.proofs.GatherLemmas.{Puts-kept}
 use Rattle.dc_view.proofs.logs.put_honest.Goals as goal
 
 pub returns : goal.returns

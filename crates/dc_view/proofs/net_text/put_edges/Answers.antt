@@ -1,6 +1,6 @@
 use Rattle.std.proofs.Common.{rules}
 use Rattle.dc_run_texts.specs.View.{edge_line}
-use Rattle.dc_view.proofs.PutSoFar.{ItemsPut-then, ItemsPut-stops}
+use Rattle.dc_print.proofs.PutSoFar.{ItemsPut-then, ItemsPut-stops}
 use Rattle.dc_view.proofs.net_text.put_edges.Goals as goal
 
 pub returns-in_err-put_some_edges : goal.returns-in_err-put_some_edges

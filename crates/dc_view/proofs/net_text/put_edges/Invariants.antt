@@ -1,7 +1,7 @@
 use Rattle.std.proofs.Common.{length}
 use Rattle.std.specs.List.{flat_map}
 use Rattle.dc_run_texts.specs.View.{edge_line}
-use Rattle.dc_view.proofs.PutSoFar.{PutSoFar}
+use Rattle.dc_print.proofs.PutSoFar.{PutSoFar}
 use Rattle.dc_view.proofs.net_text.put_edges.Given as goal
 
 -- all lines but those of the rest were put

@@ -1,7 +1,7 @@
 use Rattle.std.proofs.Common.{◌-◌, arith}
 use Rattle.std.specs.List.{range_with_len}
 use Rattle.dc_formats.specs.WordLines.{pair_word_line, items_of_round}
-use Rattle.dc_view.proofs.FillLemmas.{Fills-more}
+use Rattle.dc_print.proofs.FillLemmas.{Fills-more}
 use Rattle.dc_view.proofs.ListSteps.{range-more}
 use Rattle.dc_view.proofs.pads.fill_pads.Goals as goal
 

@@ -1,7 +1,7 @@
 use Rattle.std.proofs.Common.{◌+◌, ◌-◌, ◌*◌, ◌≤◌}
 use Rattle.std.specs.List.{flat_map, range_with_len}
 use Rattle.dc_formats.specs.WordLines.{pair_word_line, items_of_round}
-use Rattle.dc_view.specs.Filling.{Fills}
+use Rattle.dc_print.specs.Filling.{Fills}
 use Rattle.dc_view.proofs.pads.fill_pads.Given as goal
 
 -- the lines of the rounds so far are filled in

@@ -1,6 +1,6 @@
 use Rattle.std.proofs.Common.{rules, arith}
 use Rattle.dc_formats.specs.WordLines.{pair_word_line, items_of_round}
-use Rattle.dc_view.proofs.PutSoFar.{PutSoFar-then, PutSoFar-stops}
+use Rattle.dc_print.proofs.PutSoFar.{PutSoFar-then, PutSoFar-stops}
 use Rattle.dc_view.proofs.ListSteps.{flat_map-range}
 use Rattle.dc_view.proofs.pads.put_pads.Goals as goal
 

@@ -2,7 +2,7 @@ use Rattle.std.proofs.Common.{◌-◌, ◌≤◌}
 use Rattle.std.specs.List.{flat_map, range_with_len}
 use Rattle.dc_formats.specs.WordLines.{pair_word_line, items_of_round}
 use Rattle.dc_run_texts.specs.View.{pad_lines}
-use Rattle.dc_view.proofs.PutSoFar.{PutSoFar}
+use Rattle.dc_print.proofs.PutSoFar.{PutSoFar}
 use Rattle.dc_view.proofs.pads.put_pads.Given as goal
 
 -- all lines but those of the rounds to come were put

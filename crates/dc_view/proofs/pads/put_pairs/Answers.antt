@@ -1,6 +1,6 @@
 use Rattle.std.proofs.Common.{rules}
 use Rattle.dc_view.specs.Pads.{known_lines}
-use Rattle.dc_view.proofs.PutSoFar.{ItemPut-then, ItemPut-stops}
+use Rattle.dc_print.proofs.PutSoFar.{ItemPut-then, ItemPut-stops}
 use Rattle.dc_view.proofs.pads.put_pairs.Goals as goal
 
 pub returns-in_err-put_known_pair : goal.returns-in_err-put_known_pair

@@ -1,7 +1,7 @@
 use Rattle.std.proofs.Common.{drop}
 use Rattle.std.specs.List.{flat_map}
 use Rattle.dc_view.specs.Pads.{known_lines}
-use Rattle.dc_view.proofs.PutSoFar.{PutSoFar}
+use Rattle.dc_print.proofs.PutSoFar.{PutSoFar}
 use Rattle.dc_view.proofs.pads.put_pairs.Given as goal
 
 -- all lines but those of the pairs to come were put

@@ -1,7 +1,7 @@
 use Rattle.std.proofs.Common.{◌*◌, ◌≤◌, take}
 use Rattle.std.specs.List.{flat_map}
 use Rattle.dc_run_texts.specs.View.{edge_line}
-use Rattle.dc_view.specs.Filling.{Fills}
+use Rattle.dc_print.specs.Filling.{Fills}
 use Rattle.dc_view.proofs.pieces.fill_edges.Given as goal
 
 -- the lines of the edges so far are filled in

@@ -4,7 +4,7 @@ use Rattle.std.specs.List.{range_with_len}
 use Rattle.std.proofs.lemmas.List.{append-nil}
 use Rattle.dc_spec.specs.Lists.{is_among}
 use Rattle.dc_spec.specs.Text.{line}
-use Rattle.dc_view.proofs.FillLemmas.{Fills-more}
+use Rattle.dc_print.proofs.FillLemmas.{Fills-more}
 use Rattle.dc_view.proofs.ListSteps.{filter-range_more}
 use Rattle.dc_view.proofs.pieces.fill_members.Goals as goal
 use Rattle.dc_view.proofs.pieces.fill_members.Goals.{then-holds, else-holds}

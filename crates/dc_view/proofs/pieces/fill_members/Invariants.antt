@@ -3,7 +3,7 @@ use Rattle.std.specs.Prelude.{codes, decimal}
 use Rattle.std.specs.List.{flat_map, range_with_len}
 use Rattle.dc_spec.specs.Lists.{is_among}
 use Rattle.dc_spec.specs.Text.{line}
-use Rattle.dc_view.specs.Filling.{Fills}
+use Rattle.dc_print.specs.Filling.{Fills}
 use Rattle.dc_view.proofs.pieces.fill_members.Given as goal
 
 -- the lines of the members so far are filled in

@@ -2,7 +2,7 @@ use Rattle.std.proofs.Common.{take, arith}
 use Rattle.std.specs.Prelude.{codes}
 use Rattle.std.specs.List.{enumerate_from}
 use Rattle.dc_formats.specs.WordLines.{station_word_line}
-use Rattle.dc_view.proofs.FillLemmas.{Fills-more}
+use Rattle.dc_print.proofs.FillLemmas.{Fills-more}
 use Rattle.dc_view.proofs.ListSteps.{enumerate-more}
 use Rattle.dc_view.proofs.pieces.fill_published.Goals as goal
 

@@ -3,7 +3,7 @@ use Rattle.std.specs.Prelude.{codes, zip}
 use Rattle.std.proofs.lemmas.List.{take_all}
 use Rattle.std.proofs.lemmas.Slice.Zip.{length-zip}
 use Rattle.dc_formats.specs.WordLines.{station_word_line}
-use Rattle.dc_view.proofs.FillLemmas.{Fills-more}
+use Rattle.dc_print.proofs.FillLemmas.{Fills-more}
 use Rattle.dc_view.proofs.ListSteps.{zip-more}
 use Rattle.dc_view.proofs.pieces.fill_received.Goals as goal
 

@@ -1,7 +1,7 @@
 use Rattle.std.proofs.Common.{drop}
 use Rattle.std.specs.List.{flat_map, enumerate_from}
 use Rattle.dc_run_texts.specs.View.{round_text}
-use Rattle.dc_view.proofs.PutSoFar.{PutSoFar}
+use Rattle.dc_print.proofs.PutSoFar.{PutSoFar}
 use Rattle.dc_view.proofs.rounds.put_rounds.Given as goal
 
 -- all rounds but those to come were put

@@ -1,7 +1,7 @@
 use Rattle.std.proofs.Common.{map, ap, ◌∙◌}
 use Rattle.dc_spec.specs.Net.{Run}
 use Rattle.dc_spec.specs.Words.{word_sum}
-use Rattle.dc_view.proofs.FillLemmas.{Fills-then}
+use Rattle.dc_print.proofs.FillLemmas.{Fills-then}
 use Rattle.dc_view.proofs.TrialText.{both, trial_text-lines}
 use Rattle.dc_view.proofs.trial.fill_trial.Goals as goal
 

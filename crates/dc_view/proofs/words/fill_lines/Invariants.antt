@@ -1,6 +1,6 @@
 use Rattle.std.proofs.Common.{◌≡◌, ◌*◌, take}
 use Rattle.dc_spec.specs.Text.{words_text}
-use Rattle.dc_view.specs.Filling.{Fills}
+use Rattle.dc_print.specs.Filling.{Fills}
 use Rattle.dc_view.proofs.words.fill_lines.Given as goal
 
 -- the lines of the words so far are filled in

@@ -1,6 +1,6 @@
 use Rattle.std.proofs.Common.{rules}
 use Rattle.dc_spec.specs.Text.{line, word_text}
-use Rattle.dc_view.proofs.PutSoFar.{ItemsPut-then, ItemsPut-stops}
+use Rattle.dc_print.proofs.PutSoFar.{ItemsPut-then, ItemsPut-stops}
 use Rattle.dc_view.proofs.words.put_words.Goals as goal
 
 pub returns-in_err-put_lines : goal.returns-in_err-put_lines

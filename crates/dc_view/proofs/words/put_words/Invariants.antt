@@ -1,6 +1,6 @@
 use Rattle.std.proofs.Common.{length}
 use Rattle.dc_spec.specs.Text.{words_text}
-use Rattle.dc_view.proofs.PutSoFar.{PutSoFar}
+use Rattle.dc_print.proofs.PutSoFar.{PutSoFar}
 use Rattle.dc_view.proofs.words.put_words.Given as goal
 
 -- all lines but those of the rest were put

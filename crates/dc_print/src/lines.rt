@@ -4,17 +4,17 @@
 ghost use Rattle.std.specs.Prelude.{◌≡◌, ◌+◌, ◌≤◌, ◌++◌, length, codes, decimal};
 ghost use Rattle.dc_spec.specs.Text.{line, word_text as text_of};
 ghost use Rattle.dc_formats.specs.WordLines.{station_word_line, pair_word_line};
-ghost use Rattle.dc_view.specs.Filling.{Fills};
+ghost use Rattle.dc_print.specs.Filling.{Fills};
 
 use crate::filling::{fill_bytes, fill_number};
 use dc_field::{Word, word_text};
 
 /// The most bytes of a line: a beginning of seven, three numbers of five digits with a blank after
 /// each, a word, a line feed.
-pub(crate) const LINE_BYTES: usize = 106;
+pub const LINE_BYTES: usize = 106;
 
 /// Fills in a beginning and a number.
-pub(crate) fn fill_number_line(buffer: &mut [u8], at: usize, beginning: &[u8], n: u16) -> usize
+pub fn fill_number_line(buffer: &mut [u8], at: usize, beginning: &[u8], n: u16) -> usize
     requires beginning { length beginning.now ≤ 7 }
     requires room { at + LINE_BYTES ≤ length buffer.old }
     ensures text { Fills (line (beginning.now ++ decimal n)) at buffer.old buffer.new result }
@@ -25,13 +25,7 @@ pub(crate) fn fill_number_line(buffer: &mut [u8], at: usize, beginning: &[u8], n
 }
 
 /// Fills in a beginning and two numbers.
-pub(crate) fn fill_numbers_line(
-    buffer: &mut [u8],
-    at: usize,
-    beginning: &[u8],
-    x: u16,
-    y: u16,
-) -> usize
+pub fn fill_numbers_line(buffer: &mut [u8], at: usize, beginning: &[u8], x: u16, y: u16) -> usize
     requires beginning { length beginning.now ≤ 7 }
     requires room { at + LINE_BYTES ≤ length buffer.old }
     ensures text { Fills (line (beginning.now ++ decimal x ++ codes " " ++ decimal y))
@@ -44,13 +38,7 @@ pub(crate) fn fill_numbers_line(
 }
 
 /// Fills in a beginning, a station's number and a word.
-pub(crate) fn fill_station_line(
-    buffer: &mut [u8],
-    at: usize,
-    beginning: &[u8],
-    i: u16,
-    w: &Word,
-) -> usize
+pub fn fill_station_line(buffer: &mut [u8], at: usize, beginning: &[u8], i: u16, w: &Word) -> usize
     requires beginning { length beginning.now ≤ 7 }
     requires room { at + LINE_BYTES ≤ length buffer.old }
     ensures text { Fills (station_word_line beginning.now i w.now) at buffer.old buffer.new result }
@@ -62,7 +50,7 @@ pub(crate) fn fill_station_line(
 }
 
 /// Fills in a beginning, the two stations of a pair, a round and a word.
-pub(crate) fn fill_pair_line(
+pub fn fill_pair_line(
     buffer: &mut [u8],
     at: usize,
     beginning: &[u8],
@@ -84,7 +72,7 @@ pub(crate) fn fill_pair_line(
 }
 
 /// Fills in a word and the end of its line: 81 bytes.
-pub(crate) fn fill_word_line(buffer: &mut [u8], at: usize, w: &Word) -> usize
+pub fn fill_word_line(buffer: &mut [u8], at: usize, w: &Word) -> usize
     requires { at + 81 ≤ length buffer.old }
     ensures text { Fills (line (text_of w.now)) at buffer.old buffer.new result }
     ensures place { result ≡ at + 81 }

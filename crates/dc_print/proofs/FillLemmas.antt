@@ -2,7 +2,7 @@
 use Rattle.std.proofs.Common.{◌≡◌, ℕ, List, [], ◌∷◌, ◌++◌, take, sym, ◌∙◌, append_assoc, arith, length-append}
 use Rattle.std.specs.List.{flat_map}
 use Rattle.std.proofs.lemmas.List.{append-nil, flat_map_more}
-use Rattle.dc_view.specs.Filling.{Fills}
+use Rattle.dc_print.specs.Filling.{Fills}
 
 -- nothing is filled in
 pub Fills-nothing : (at : ℕ) (buffer : List ℕ) → Fills [] at buffer buffer at

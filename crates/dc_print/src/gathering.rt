@@ -5,14 +5,17 @@ ghost use Rattle.std.specs.Prelude.{◌≡◌, ◌≤◌, ◌++◌, length, take
 ghost use Rattle.std.specs.List.{flat_map};
 ghost use Rattle.dc_spec.specs.Text.{hex_digit as digit_char, line};
 ghost use Rattle.dc_formats.specs.TextFile.{byte_text, hex_text};
-ghost use Rattle.dc_view.specs.Gathering.{Gathers};
+ghost use Rattle.dc_formats.specs.WordLines.{pair_word_line};
+ghost use Rattle.dc_print.specs.Gathering.{Gathers};
 
 use crate::filling::fill_bytes;
+use crate::lines::{LINE_BYTES, fill_pair_line};
 use dc_edge::{Failed, Sink};
+use dc_field::Word;
 use itoa::Buffer;
 
 /// Gathers some bytes.
-pub(crate) fn gather_bytes<K: Sink>(
+pub fn gather_bytes<K: Sink>(
     buffer: &mut [u8],
     end: usize,
     bytes: &[u8],
@@ -32,7 +35,7 @@ pub(crate) fn gather_bytes<K: Sink>(
 }
 
 /// Gathers a text and a number, in decimal.
-pub(crate) fn gather_number<K: Sink>(
+pub fn gather_number<K: Sink>(
     buffer: &mut [u8],
     end: usize,
     text: &[u8],
@@ -51,7 +54,7 @@ pub(crate) fn gather_number<K: Sink>(
 }
 
 /// Gathers a text, a number and the end of the line.
-pub(crate) fn gather_number_line<K: Sink>(
+pub fn gather_number_line<K: Sink>(
     buffer: &mut [u8],
     end: usize,
     text: &[u8],
@@ -66,6 +69,28 @@ pub(crate) fn gather_number_line<K: Sink>(
 {
     let end = gather_number(buffer, end, text, n, out)?;
     gather_bytes(buffer, end, b"\n", out)
+}
+
+/// Gathers a line: a beginning of at most seven bytes, the two stations of a pair, a round and a
+/// word. The buffer has room for a line.
+pub fn gather_pair_line<K: Sink>(
+    buffer: &mut [u8],
+    end: usize,
+    beginning: &[u8],
+    ends: (u16, u16),
+    r: u16,
+    w: &Word,
+    out: &mut K,
+) -> Result<usize, Failed>
+    requires end { end ≤ length buffer.old }
+    requires room { LINE_BYTES ≤ length buffer.old }
+    requires beginning { length beginning.now ≤ 7 }
+    ensures { Gathers (pair_word_line beginning.now ends.0 ends.1 r w.now) (take end buffer.old)
+        buffer.new (K.state out.old) (K.state out.new) result }
+{
+    let mut text = [0u8; LINE_BYTES];
+    let filled = fill_pair_line(&mut text, 0, beginning, ends, r, w);
+    gather_bytes(buffer, end, &text[..filled], out)
 }
 
 /// Gathers two digits for each of some bytes.
@@ -121,7 +146,7 @@ fn gather_payload<K: Sink>(
 }
 
 /// Gathers a text, some bytes in digits and the end of the line.
-pub(crate) fn gather_payload_line<K: Sink>(
+pub fn gather_payload_line<K: Sink>(
     buffer: &mut [u8],
     end: usize,
     text: &[u8],

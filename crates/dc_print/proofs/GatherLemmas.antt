@@ -7,8 +7,8 @@ use Rattle.dc_spec.specs.Outside.{SinkState}
 use Rattle.dc_edge.specs.Sink.{Puts}
 use Rattle.dc_edge.specs.declared.fault.Failed.{Failed}
 use Rattle.dc_edge.proofs.PutLemmas.{Puts-nothing, Puts-then, Puts-stops}
-use Rattle.dc_view.specs.Gathering.{Gathers}
-use Rattle.dc_view.proofs.PutSoFar.{flat_map-split}
+use Rattle.dc_print.specs.Gathering.{Gathers}
+use Rattle.dc_print.proofs.PutSoFar.{flat_map-split}
 
 -- nothing was gathered yet
 pub Gathers-nothing : (end : ℕ) (buffer : List ℕ) (s : SinkState) → end ≤ length buffer → Gathers [] (take end buffer) buffer s s (Ok end)

@@ -1,8 +1,8 @@
 use Rattle.std.proofs.Common.{take, Ok}
 use Rattle.std.specs.List.{flat_map}
 use Rattle.dc_formats.specs.TextFile.{byte_text}
-use Rattle.dc_view.specs.Gathering.{Gathers}
-use Rattle.dc_view.proofs.gathering.gather_hex.Given as goal
+use Rattle.dc_print.specs.Gathering.{Gathers}
+use Rattle.dc_print.proofs.gathering.gather_hex.Given as goal
 
 -- the digits of the bytes so far are gathered
 abbrev pub invariant-loop-byte : goal.invariant-loop-byte

@@ -1,0 +1,3 @@
+pub mod PutSoFar
+pub mod FillLemmas
+pub mod GatherLemmas
