@@ -27,11 +27,11 @@ use Rattle.dc_twin.proofs.Moved.{permutes}
 
 -- ---- lists
 
-flat-of_map : {A B : Type 0} (f : A → List B) (xs : List A) → flat_map (λ row. row) (map f xs) ≡ flat_map f xs
+pub flat-of_map : {A B : Type 0} (f : A → List B) (xs : List A) → flat_map (λ row. row) (map f xs) ≡ flat_map f xs
 flat-of_map f [] = refl
 flat-of_map f (x ∷ xs) = ap (λ ys. f x ++ ys) (flat-of_map f xs)
 
-flat-same : {B : Type 0} (f g : ℕ → List B) (a n : ℕ) → ((t : ℕ) → t < a + n → f t ≡ g t) → flat_map f (range_with_len a n) ≡ flat_map g (range_with_len a n)
+pub flat-same : {B : Type 0} (f g : ℕ → List B) (a n : ℕ) → ((t : ℕ) → t < a + n → f t ≡ g t) → flat_map f (range_with_len a n) ≡ flat_map g (range_with_len a n)
 flat-same f g a zero same = refl
 flat-same f g a (suc n) same =
     let here : f a ≡ g a = same a (omega arith) in

@@ -66,7 +66,7 @@ before p i k less low =
     let size : length (take k p) ≡ k = length-take-le k p (omega arith) in
     subst (λ (z : ℕ). is_among (take k p) z ≡ true) (get_or-take k p i 0 less) (stands (take k p) i 0 (omega arith))
 
-permutes : (n : ℕ) (p : List ℕ) → length p ≡ n → place_fault n p ≡ None → IsPermutationOf n p
+pub permutes : (n : ℕ) (p : List ℕ) → length p ≡ n → place_fault n p ≡ None → IsPermutationOf n p
 permutes n p count none = record {
   count = count;
   stations = λ k d low. subst (λ (z : ℕ). z < n) (get_or_default p k 0 d low) (ltb-true (slice_index p k) n (places_good n p count none k (omega arith)).0);
@@ -164,7 +164,7 @@ no_round net a (round ∷ rounds) alike =
 
 -- ---- all tests
 
-counted : (n : ℕ) (p : List ℕ) → count_fault n p ≡ None → length p ≡ n
+pub counted : (n : ℕ) (p : List ℕ) → count_fault n p ≡ None → length p ≡ n
 counted n p none = eqb-true (length p) n (test_holds (length p == n) (PermCount (min (length p) most_counted) n) none)
 
 uncounted : (n : ℕ) (p : List ℕ) → length p ≡ n → count_fault n p ≡ None

@@ -4,3 +4,8 @@ pub mod Received
 pub mod Moved
 pub mod DemandRows
 pub mod Origins
+pub mod FlatRows
+pub mod EdgeShifts
+pub mod FirstFaults
+pub mod Admitted
+pub mod ShiftedPads

@@ -4,6 +4,7 @@ ghost use Rattle.std.specs.Prelude.{◌≡◌, ◌+◌, ◌*◌, ◌<◌, ◌≤
 ghost use Rattle.std.specs.List.{flat_map, range_with_len};
 ghost use Rattle.dc_spec.specs.Words.{zero_word};
 ghost use Rattle.dc_twin.specs.Demands.{words_at, row_of};
+ghost use Rattle.dc_twin.specs.Edges.{row_in};
 
 use dc_field::{NoMemory, Word, Words};
 use std::alloc::Global;
@@ -26,6 +27,16 @@ pub(crate) fn words_at(
         column.push(words[t * count + place])?;
     }
     Ok(column)
+}
+
+/// The row of a number, where so many rows have `count` words each.
+pub(crate) fn row(words: &[Word], rows: u16, count: usize, t: u16) -> &[Word]
+    requires row { t < rows }
+    requires rows { rows * count ≤ length words.now }
+    ensures { result.now ≡ row_in count words.now t }
+{
+    let from = usize::from(t) * count;
+    &words[from..from + count]
 }
 
 /// So many rows, each with a word from each column; where a column has no word of a row, the zero

@@ -12,7 +12,8 @@ ghost use Rattle.dc_twin.specs.Demands.{stream_demands, station_demands as deman
 
 use crate::columns::{rows_of, words_at};
 use crate::station_demands::station_demands;
-use dc_field::{Items, NoMemory, Word, Words};
+use dc_field::{NoMemory, Word, Words};
+use dc_graph::Perm;
 use dc_net::{CheckedNet, Net, Played};
 use dc_stream::Stream;
 use std::alloc::Global;
@@ -26,7 +27,7 @@ pub fn demands(
     alloc: Global,
     net: &CheckedNet,
     run: &Played,
-    perm: &Items<u16>,
+    perm: &Perm,
 ) -> Result<Words, NoMemory>
     requires run { run.now ≡ run_of net.now }
     requires permutation { PermutesHonest net.now perm.now }

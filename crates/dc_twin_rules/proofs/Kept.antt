@@ -126,7 +126,7 @@ stray-kept net p =
     (λ q. (λ i. key_stray (changed-u net p q i) (changed-v net p q i))) net.keys.pairs
 
 -- a member stays in place
-stays : (g : KeyGraph) (u : ℕ) (walk : List ℕ) (w : ℕ) → is_among g.coalition u ≡ true → IsWalk g u walk w → u ≡ w
+pub stays : (g : KeyGraph) (u : ℕ) (walk : List ℕ) (w : ℕ) → is_among g.coalition u ≡ true → IsWalk g u walk w → u ≡ w
 stays g u [] w member walks = walks
 stays g u (v ∷ vs) w member walks =
     let honest = not-true _ (and_parts (has_edge g.edges u v) (not (is_among g.coalition u || is_among g.coalition v)) walks.0).1 in
