@@ -24,6 +24,11 @@ NETS = {
     "dc_steering_rules.specs.Steerings": "changes_up_to steering_of steered_net",
     "dc_spec.specs.Symbols": "power_below",
 }
+STEERING_FAULTS = {
+    **NETS,
+    "dc_steer.specs.Faults": "steer_fault",
+    "dc_steer.specs.declared.fault.SteerFault.TheVariants": "NotNeighbours NotHonest NeverDiffered SumDelivery RuledRound WantedWords",
+}
 AGREEMENT = {
     "dc_spec.specs.Words": "word_of",
     "dc_spec.specs.Scripts": "all_sum each",
@@ -195,6 +200,26 @@ def ruled_steerings(line):
     return None if line.get("fault") else steering_claims(line, 2)
 
 
+def steering_fault(line, version):
+    """The first fault of a steering, or none."""
+    fault = None
+    if line.get("fault"):
+        name, *fields = line["fault"].split(" ")
+        variant = "".join(part.title() for part in name.split("-"))
+        fault = f"({' '.join([variant, *(field.split('=')[1] for field in fields)])})"
+    return [f"steer_fault {net(line['net'], version)} {line['u']} {line['v']} {words(line['wanted'])} ≡ {option(fault)}"]
+
+
+def steering_faults(line):
+    """A steering under a script of version 1 has no fault."""
+    return steering_fault(line, 1)
+
+
+def ruled_steering_faults(line):
+    """The fault of a steering under a script of version 2."""
+    return steering_fault(line, 2)
+
+
 def plain_net(line):
     """The parts of a net that their agreement depends on: pads are zeros, streams are empty."""
     zeros = numbers([0] * (16 * line["keys"]["words"]))
@@ -232,10 +257,7 @@ KINDS = {
     "ruled": Kind("ruled", NETS, RUNNING, ruled, 2),
     "ruled_twins": Kind("ruled_twins", NETS, RUNNING + " reached spreads chain", ruled_twins, 2),
     "ruled_steerings": Kind("ruled_steerings", NETS, RUNNING + " power_below changes_up_to", ruled_steerings, 2),
+    "steering_faults": Kind("steerings", STEERING_FAULTS, RUNNING + " steer_fault", steering_faults, 2),
+    "ruled_steering_faults": Kind("ruled_steerings", STEERING_FAULTS, RUNNING + " steer_fault", ruled_steering_faults, 2),
     "checks": Kind("checks", AGREEMENT, "word_of", checks, 10),
-}
-
-# what of a line no kind here checks
-UNCHECKED = {
-    "ruled_steerings": lambda case: "the refusals of a steering are not defined yet" if case.get("fault") else None,
 }

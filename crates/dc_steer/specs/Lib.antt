@@ -1,3 +1,9 @@
 pub mod Wanted
 pub mod WantedTexts
 pub mod Changes
+pub mod Gains
+pub mod SteeredKeys
+pub mod Faults
+pub mod Tests
+pub mod Steered
+pub mod Laws

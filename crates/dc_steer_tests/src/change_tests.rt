@@ -18,7 +18,7 @@ fn word<R: Abort>(rt: &R, places: &[(usize, u32)]) -> Word {
 }
 
 /// The words with these numbers at these places.
-fn words<R: AllocGlobal + Abort>(rt: &R, each: &[&[(usize, u32)]]) -> Words {
+pub(crate) fn words<R: AllocGlobal + Abort>(rt: &R, each: &[&[(usize, u32)]]) -> Words {
     let mut words = Vec::new(rt.alloc());
     for places in each {
         match words.push(word(rt, places)) {
@@ -49,7 +49,7 @@ fn changes<R: AllocGlobal + Abort>(rt: &R, cu: &Words, cv: &Words, wanted: &Word
 }
 
 /// Asserts which changes are not 0.
-fn are<R: Abort>(rt: &R, changes: &[u32], count: usize, due: &[(usize, u32)]) {
+pub(crate) fn are<R: Abort>(rt: &R, changes: &[u32], count: usize, due: &[(usize, u32)]) {
     assert_eq!(rt; changes.len(), count);
     for (n, x) in changes.iter().enumerate() {
         let expected = match due.iter().find(|place| place.0 == n) {
