@@ -6,10 +6,10 @@ use Rattle.std.specs.Str.{bytes_eq}
 use Rattle.std.proofs.lemmas.List.{take_all}
 use Rattle.std.proofs.lemmas.Slice.Eq.{bytes_eq-Decides}
 use Rattle.dc_spec.specs.Limits.{most_stations}
-use Rattle.dc_cli.specs.Forms.{Slot, literal, name, number, number_between, fits, keygen_slots, seeds_slots, workers_slots, most_words_of, stations_in, words_slots, stations_slots, trial_slots, is_name, texts, begun, is_form, longest_begun}
-use Rattle.dc_cli.specs.Commands.{said, SpellsWords, ReadsAs, ReadsAsFile, ReadsAsKeygen, ReadsAsMigrate, ReadsAsLogs, ReadsAsReplay, ReadsAsTrial, ReadsAsStations, ReadsAsWords, FitsNot, ReadsAsWorkers, ReadsAsCount}
+use Rattle.dc_cli.specs.Forms.{Slot, literal, name, number, number_between, fits, keygen_slots, seeds_slots, twin_slots, second_slots, ends_slots, steer_slots, workers_slots, stations_in, words_slots, stations_slots, trial_slots, is_name, texts, begun, spells, is_form, longest_begun}
+use Rattle.dc_cli.specs.Commands.{said, SpellsWords, ReadsAs, ReadsAsFile, ReadsAsKeygen, ReadsAsMigrate, ReadsAsLogs, ReadsAsTwin, ReadsAsSteer, ReadsAsEnds, ReadsAsSecond, ReadsAsWanted, ReadsAsReplay, ReadsAsTrial, ReadsAsStations, ReadsAsWords, FitsNot, ReadsAsWorkers, ReadsAsCount}
 use Rattle.dc_cli.specs.declared.command.Command.{Command}
-use Rattle.dc_cli.specs.declared.command.Command.TheVariants.{Sum, Keygen, KeygenSeeds, Migrate, Replay, Logs, Trial}
+use Rattle.dc_cli.specs.declared.command.Command.TheVariants.{Sum, Keygen, KeygenSeeds, Migrate, Replay, Logs, Twin, Steer, Trial}
 
 -- the first word and the others
 pub texts-front : {A : Type 0} (xs : List (String A)) (d : String A) → 1 ≤ length xs → texts xs ≡ string_bytes (get_or xs 0 d) ∷ texts (take (length xs - 1) (drop 1 xs))
@@ -28,15 +28,17 @@ texts_differ word due other = not_true (bytes_eq word due) (λ same. other ((byt
 
 -- words that begin with another word are not a form
 pub other_word : (verb : List ℕ) (rest : List (List ℕ)) → verb ≢ codes "sum" → verb ≢ codes "keygen" → verb ≢ codes "migrate" → verb ≢ codes "replay" → verb ≢ codes "logs"
-    → verb ≢ codes "trial" → (is_form (verb ∷ rest) ≡ false) × (0 ≡ longest_begun (verb ∷ rest))
-other_word verb rest not_sum not_keygen not_migrate not_replay not_logs not_trial =
+    → verb ≢ codes "twin" → verb ≢ codes "steer" → verb ≢ codes "trial" → (is_form (verb ∷ rest) ≡ false) × (0 ≡ longest_begun (verb ∷ rest))
+other_word verb rest not_sum not_keygen not_migrate not_replay not_logs not_twin not_steer not_trial =
     let sum = texts_differ verb (codes "sum") not_sum in
     let keygen = texts_differ verb (codes "keygen") not_keygen in
     let migrate = texts_differ verb (codes "migrate") not_migrate in
     let replay = texts_differ verb (codes "replay") not_replay in
     let logs = texts_differ verb (codes "logs") not_logs in
+    let twin = texts_differ verb (codes "twin") not_twin in
+    let steer = texts_differ verb (codes "steer") not_steer in
     let trial = texts_differ verb (codes "trial") not_trial in
-    (rw (sum, keygen, migrate, replay, logs, trial) refl, rw (sum, keygen, migrate, replay, logs, trial) refl)
+    (rw (sum, keygen, migrate, replay, logs, twin, steer, trial) refl, rw (sum, keygen, migrate, replay, logs, twin, steer, trial) refl)
 
 -- an empty command line is not a form
 pub no_words : {A : Type 0} (xs : List (String A)) → length xs < 1 → (is_form (texts xs) ≡ false) × (0 ≡ longest_begun (texts xs))
@@ -81,10 +83,12 @@ ReadsAs-sum words (Ok (Sum file)) p = (ap (λ (ws : List (List ℕ)). codes "sum
 ReadsAs-sum words (Ok (Keygen seed net target)) p = absurd p
 ReadsAs-sum words (Ok (KeygenSeeds seed net target)) p = absurd p
 ReadsAs-sum words (Ok (Migrate keys target)) p = absurd p
+ReadsAs-sum words (Ok (Twin net perm target)) p = absurd p
+ReadsAs-sum words (Ok (Steer net u v wanted target)) p = absurd p
 ReadsAs-sum words (Ok (Replay net workers)) p = absurd p
 ReadsAs-sum words (Ok (Logs net)) p = absurd p
 ReadsAs-sum words (Ok (Trial seed stations count workers)) p = absurd p
-ReadsAs-sum words (Err place) p = (rw p.0 refl, p.1 ∙ sym (as_far 8 (begun (name ∷ []) words)))
+ReadsAs-sum words (Err place) p = (rw p.0 refl, p.1 ∙ sym (as_far 10 (begun (name ∷ []) words)))
 
 -- the words after `keygen`, read as its seed, its names and its flag, make the command
 pub ReadsAs-keygen : (words : List (List ℕ)) (r : Result Command ℕ) → ReadsAsKeygen words r → ReadsAs (codes "keygen" ∷ words) r
@@ -92,22 +96,26 @@ ReadsAs-keygen words (Ok (Keygen seed net target)) p = (words, refl, p)
 ReadsAs-keygen words (Ok (KeygenSeeds seed net target)) p = (words, refl, p)
 ReadsAs-keygen words (Ok (Sum file)) p = absurd p
 ReadsAs-keygen words (Ok (Migrate keys target)) p = absurd p
+ReadsAs-keygen words (Ok (Twin net perm target)) p = absurd p
+ReadsAs-keygen words (Ok (Steer net u v wanted target)) p = absurd p
 ReadsAs-keygen words (Ok (Replay net workers)) p = absurd p
 ReadsAs-keygen words (Ok (Logs net)) p = absurd p
 ReadsAs-keygen words (Ok (Trial seed stations count workers)) p = absurd p
 ReadsAs-keygen words (Err place) p =
-    (rw (p.0, p.1) refl, p.2 ∙ sym (as_far_of_two 6 (begun keygen_slots words) (begun seeds_slots words) (begun_more keygen_slots (literal (codes "--seeds") ∷ []) words)))
+    (rw (p.0, p.1) refl, p.2 ∙ sym (as_far_of_two 8 (begun keygen_slots words) (begun seeds_slots words) (begun_more keygen_slots (literal (codes "--seeds") ∷ []) words)))
 
 -- the words after `migrate`, read as its names, make the command
 pub ReadsAs-migrate : (words : List (List ℕ)) (r : Result Command ℕ) → ReadsAsMigrate words r → ReadsAs (codes "migrate" ∷ words) r
 ReadsAs-migrate words (Ok (Migrate keys target)) p = (ap (λ (ws : List (List ℕ)). codes "migrate" ∷ ws) p.0, p.1, p.2)
+ReadsAs-migrate words (Ok (Twin net perm target)) p = absurd p
+ReadsAs-migrate words (Ok (Steer net u v wanted target)) p = absurd p
 ReadsAs-migrate words (Ok (Sum file)) p = absurd p
 ReadsAs-migrate words (Ok (Keygen seed net target)) p = absurd p
 ReadsAs-migrate words (Ok (KeygenSeeds seed net target)) p = absurd p
 ReadsAs-migrate words (Ok (Replay net workers)) p = absurd p
 ReadsAs-migrate words (Ok (Logs net)) p = absurd p
 ReadsAs-migrate words (Ok (Trial seed stations count workers)) p = absurd p
-ReadsAs-migrate words (Err place) p = (rw p.0 refl, p.1 ∙ sym (as_far 5 (begun (name ∷ name ∷ []) words)))
+ReadsAs-migrate words (Err place) p = (rw p.0 refl, p.1 ∙ sym (as_far 7 (begun (name ∷ name ∷ []) words)))
 
 -- the words after `logs`, read as its name, make the command
 pub ReadsAs-logs : (words : List (List ℕ)) (r : Result Command ℕ) → ReadsAsLogs words r → ReadsAs (codes "logs" ∷ words) r
@@ -116,9 +124,11 @@ ReadsAs-logs words (Ok (Sum file)) p = absurd p
 ReadsAs-logs words (Ok (Keygen seed net target)) p = absurd p
 ReadsAs-logs words (Ok (KeygenSeeds seed net target)) p = absurd p
 ReadsAs-logs words (Ok (Migrate keys target)) p = absurd p
+ReadsAs-logs words (Ok (Twin net perm target)) p = absurd p
+ReadsAs-logs words (Ok (Steer net u v wanted target)) p = absurd p
 ReadsAs-logs words (Ok (Replay net workers)) p = absurd p
 ReadsAs-logs words (Ok (Trial seed stations count workers)) p = absurd p
-ReadsAs-logs words (Err place) p = (rw p.0 refl, p.1 ∙ sym (as_far 2 (begun (name ∷ []) words)))
+ReadsAs-logs words (Err place) p = (rw p.0 refl, p.1 ∙ sym (as_far 4 (begun (name ∷ []) words)))
 
 -- the words after `replay`, read as its name and its number of workers, make the command
 pub ReadsAs-replay : (words : List (List ℕ)) (r : Result Command ℕ) → ReadsAsReplay words r → ReadsAs (codes "replay" ∷ words) r
@@ -127,9 +137,11 @@ ReadsAs-replay words (Ok (Sum file)) p = absurd p
 ReadsAs-replay words (Ok (Keygen seed net target)) p = absurd p
 ReadsAs-replay words (Ok (KeygenSeeds seed net target)) p = absurd p
 ReadsAs-replay words (Ok (Migrate keys target)) p = absurd p
+ReadsAs-replay words (Ok (Twin net perm target)) p = absurd p
+ReadsAs-replay words (Ok (Steer net u v wanted target)) p = absurd p
 ReadsAs-replay words (Ok (Logs net)) p = absurd p
 ReadsAs-replay words (Ok (Trial seed stations count workers)) p = absurd p
-ReadsAs-replay words (Err place) p = (rw (p.0, p.1) refl, p.2 ∙ sym (as_far_of_two 3 (begun (name ∷ []) words) (begun (name ∷ workers_slots) words) (begun_more (name ∷ []) workers_slots words)))
+ReadsAs-replay words (Err place) p = (rw (p.0, p.1) refl, p.2 ∙ sym (as_far_of_two 5 (begun (name ∷ []) words) (begun (name ∷ workers_slots) words) (begun_more (name ∷ []) workers_slots words)))
 
 -- the words after `trial`, read as its numbers, make the command
 pub ReadsAs-trial : (words : List (List ℕ)) (r : Result Command ℕ) → ReadsAsTrial words r → ReadsAs (codes "trial" ∷ words) r
@@ -138,6 +150,8 @@ ReadsAs-trial words (Ok (Sum file)) p = absurd p
 ReadsAs-trial words (Ok (Keygen seed net target)) p = absurd p
 ReadsAs-trial words (Ok (KeygenSeeds seed net target)) p = absurd p
 ReadsAs-trial words (Ok (Migrate keys target)) p = absurd p
+ReadsAs-trial words (Ok (Twin net perm target)) p = absurd p
+ReadsAs-trial words (Ok (Steer net u v wanted target)) p = absurd p
 ReadsAs-trial words (Ok (Replay net workers)) p = absurd p
 ReadsAs-trial words (Ok (Logs net)) p = absurd p
 ReadsAs-trial words (Err place) p =
@@ -146,6 +160,98 @@ ReadsAs-trial words (Err place) p =
 
 one_less : (k n : ℕ) → suc k + n ≡ k + suc n
 one_less k n = omega arith
+
+-- the words after `twin`, read as its names, make the command
+pub ReadsAs-twin : (words : List (List ℕ)) (r : Result Command ℕ) → ReadsAsTwin words r → ReadsAs (codes "twin" ∷ words) r
+ReadsAs-twin words (Ok (Twin net perm target)) p = (words, refl, p)
+ReadsAs-twin words (Ok (Sum file)) p = absurd p
+ReadsAs-twin words (Ok (Keygen seed net target)) p = absurd p
+ReadsAs-twin words (Ok (KeygenSeeds seed net target)) p = absurd p
+ReadsAs-twin words (Ok (Migrate keys target)) p = absurd p
+ReadsAs-twin words (Ok (Replay net workers)) p = absurd p
+ReadsAs-twin words (Ok (Logs net)) p = absurd p
+ReadsAs-twin words (Ok (Steer net u v wanted target)) p = absurd p
+ReadsAs-twin words (Ok (Trial seed stations count workers)) p = absurd p
+ReadsAs-twin words (Err place) p = (rw p.0 refl, p.1 ∙ sym (as_far 3 (begun twin_slots words)))
+
+-- the words after `steer`, read as its names and stations, make the command
+pub ReadsAs-steer : (words : List (List ℕ)) (r : Result Command ℕ) → ReadsAsSteer words r → ReadsAs (codes "steer" ∷ words) r
+ReadsAs-steer words (Ok (Steer net u v wanted target)) p = (words, refl, p)
+ReadsAs-steer words (Ok (Sum file)) p = absurd p
+ReadsAs-steer words (Ok (Keygen seed net target)) p = absurd p
+ReadsAs-steer words (Ok (KeygenSeeds seed net target)) p = absurd p
+ReadsAs-steer words (Ok (Migrate keys target)) p = absurd p
+ReadsAs-steer words (Ok (Replay net workers)) p = absurd p
+ReadsAs-steer words (Ok (Logs net)) p = absurd p
+ReadsAs-steer words (Ok (Twin net perm target)) p = absurd p
+ReadsAs-steer words (Ok (Trial seed stations count workers)) p = absurd p
+ReadsAs-steer words (Err place) p = (rw p.0 refl, p.1 ∙ sym (as_far 2 (begun steer_slots words)))
+
+-- a word that fits its place, and those after it, which do not; of places of which so many others stand before them
+later_place : (before : ℕ) (slot : Slot) (slots : List Slot) (word : List ℕ) (words : List (List ℕ)) (place : ℕ) → fits slot word ≡ true
+    → spells slots words ≡ false → place ≡ suc before + begun slots words
+    → (spells (slot ∷ slots) (word ∷ words) ≡ false) × (place ≡ before + begun (slot ∷ slots) (word ∷ words))
+later_place before slot slots word words place e a b = (rw (e, a) refl, rw e (b ∙ one_less before (begun slots words)))
+
+-- a word that does not fit its place
+first_place : (before : ℕ) (slot : Slot) (slots : List Slot) (word : List ℕ) (words : List (List ℕ)) → fits slot word ≡ false
+    → (spells (slot ∷ slots) (word ∷ words) ≡ false) × (before ≡ before + begun (slot ∷ slots) (word ∷ words))
+first_place before slot slots word words e = (rw e refl, rw e (omega arith))
+
+-- the words after the name of a manifest, and this name
+pub ReadsAsSteer-ends : (net : List ℕ) (words : List (List ℕ)) (r : Result Command ℕ) → is_name net ≡ true → ReadsAsEnds net words r → ReadsAsSteer (net ∷ words) r
+ReadsAsSteer-ends net words (Ok (Steer named u v wanted target)) e p =
+    record { rest = words; words_are = ap (λ (n : List ℕ). n ∷ words) (sym p.0); net_is = rw p.0 e; ends = p.1 }
+ReadsAsSteer-ends net words (Ok (Sum file)) e p = absurd p
+ReadsAsSteer-ends net words (Ok (Keygen seed other target)) e p = absurd p
+ReadsAsSteer-ends net words (Ok (KeygenSeeds seed other target)) e p = absurd p
+ReadsAsSteer-ends net words (Ok (Migrate keys target)) e p = absurd p
+ReadsAsSteer-ends net words (Ok (Replay other workers)) e p = absurd p
+ReadsAsSteer-ends net words (Ok (Logs other)) e p = absurd p
+ReadsAsSteer-ends net words (Ok (Twin other perm target)) e p = absurd p
+ReadsAsSteer-ends net words (Ok (Trial seed stations count workers)) e p = absurd p
+ReadsAsSteer-ends net words (Err place) e p = later_place 1 name ends_slots net words place e p.0 p.1
+
+-- the words after the first station, and this station
+pub ReadsAsEnds-second : (net digits : List ℕ) (words : List (List ℕ)) (u : ℕ) (r : Result Command ℕ) → number_between 0 255 digits ≡ Some u
+    → ReadsAsSecond net u words r → ReadsAsEnds net (digits ∷ words) r
+ReadsAsEnds-second net digits words u (Ok (Steer named seen v wanted target)) e p =
+    (p.0, record { digits = digits; rest = words; words_are = refl; u_is = e ∙ ap Some (sym p.1); second = p.2 })
+ReadsAsEnds-second net digits words u (Ok (Sum file)) e p = absurd p
+ReadsAsEnds-second net digits words u (Ok (Keygen base other target)) e p = absurd p
+ReadsAsEnds-second net digits words u (Ok (KeygenSeeds base other target)) e p = absurd p
+ReadsAsEnds-second net digits words u (Ok (Migrate keys target)) e p = absurd p
+ReadsAsEnds-second net digits words u (Ok (Replay other workers)) e p = absurd p
+ReadsAsEnds-second net digits words u (Ok (Logs other)) e p = absurd p
+ReadsAsEnds-second net digits words u (Ok (Twin other perm target)) e p = absurd p
+ReadsAsEnds-second net digits words u (Ok (Trial base stations count workers)) e p = absurd p
+ReadsAsEnds-second net digits words u (Err place) e p = later_place 2 (number 0 255) second_slots digits words place (rw e refl) p.0 p.1
+
+-- the words after the second station, and this station
+pub ReadsAsSecond-wanted : (net digits : List ℕ) (words : List (List ℕ)) (u v : ℕ) (r : Result Command ℕ) → number_between 0 255 digits ≡ Some v
+    → ReadsAsWanted net u v words r → ReadsAsSecond net u (digits ∷ words) r
+ReadsAsSecond-wanted net digits words u v (Ok (Steer named seen other wanted target)) e p =
+    (p.0, p.1, record { digits = digits; rest = words; words_are = refl; v_is = e ∙ ap Some (sym p.2); names = p.3 })
+ReadsAsSecond-wanted net digits words u v (Ok (Sum file)) e p = absurd p
+ReadsAsSecond-wanted net digits words u v (Ok (Keygen base other target)) e p = absurd p
+ReadsAsSecond-wanted net digits words u v (Ok (KeygenSeeds base other target)) e p = absurd p
+ReadsAsSecond-wanted net digits words u v (Ok (Migrate keys target)) e p = absurd p
+ReadsAsSecond-wanted net digits words u v (Ok (Replay other workers)) e p = absurd p
+ReadsAsSecond-wanted net digits words u v (Ok (Logs other)) e p = absurd p
+ReadsAsSecond-wanted net digits words u v (Ok (Twin other perm target)) e p = absurd p
+ReadsAsSecond-wanted net digits words u v (Ok (Trial base stations count workers)) e p = absurd p
+ReadsAsSecond-wanted net digits words u v (Err place) e p = later_place 3 (number 0 255) (name ∷ name ∷ []) digits words place (rw e refl) p.0 p.1
+
+-- a word that is no station
+pub no_first : {A : Type 0} (xs : List (String A)) (d : String A) (net : List ℕ) → 1 ≤ length xs → number_between 0 255 (string_bytes (get_or xs 0 d)) ≡ None
+    → ReadsAsEnds net (texts xs) (Err 2)
+no_first [] d net le e = absurd (omega arith)
+no_first (x ∷ xs) d net le e = first_place 2 (number 0 255) second_slots (string_bytes x) (texts xs) (rw e refl)
+
+pub no_second : {A : Type 0} (xs : List (String A)) (d : String A) (net : List ℕ) (u : ℕ) → 1 ≤ length xs → number_between 0 255 (string_bytes (get_or xs 0 d)) ≡ None
+    → ReadsAsSecond net u (texts xs) (Err 3)
+no_second [] d net u le e = absurd (omega arith)
+no_second (x ∷ xs) d net u le e = first_place 3 (number 0 255) (name ∷ name ∷ []) (string_bytes x) (texts xs) (rw e refl)
 
 -- the first word does not fit
 pub FitsNot-first : (before : ℕ) (slot : Slot) (slots : List Slot) (word : List ℕ) (words : List (List ℕ)) → fits slot word ≡ false → FitsNot before (slot ∷ slots) (word ∷ words) before
@@ -192,6 +298,8 @@ ReadsAsTrial-stations digits words seed (Ok (Sum file)) e p = absurd p
 ReadsAsTrial-stations digits words seed (Ok (Keygen other net target)) e p = absurd p
 ReadsAsTrial-stations digits words seed (Ok (KeygenSeeds other net target)) e p = absurd p
 ReadsAsTrial-stations digits words seed (Ok (Migrate keys target)) e p = absurd p
+ReadsAsTrial-stations digits words seed (Ok (Twin net perm target)) e p = absurd p
+ReadsAsTrial-stations digits words seed (Ok (Steer net u v wanted target)) e p = absurd p
 ReadsAsTrial-stations digits words seed (Ok (Replay net workers)) e p = absurd p
 ReadsAsTrial-stations digits words seed (Ok (Logs net)) e p = absurd p
 ReadsAsTrial-stations digits words seed (Err place) e p = FitsNot-later 1 (number 0 4294967295) (stations_slots (slice_index_or words 0 [])) digits words place (rw e refl) p
@@ -206,6 +314,8 @@ ReadsAsStations-words digits words seed stations (Ok (Sum file)) e p = absurd p
 ReadsAsStations-words digits words seed stations (Ok (Keygen other net target)) e p = absurd p
 ReadsAsStations-words digits words seed stations (Ok (KeygenSeeds other net target)) e p = absurd p
 ReadsAsStations-words digits words seed stations (Ok (Migrate keys target)) e p = absurd p
+ReadsAsStations-words digits words seed stations (Ok (Twin net perm target)) e p = absurd p
+ReadsAsStations-words digits words seed stations (Ok (Steer net u v wanted target)) e p = absurd p
 ReadsAsStations-words digits words seed stations (Ok (Replay net workers)) e p = absurd p
 ReadsAsStations-words digits words seed stations (Ok (Logs net)) e p = absurd p
 ReadsAsStations-words digits words seed stations (Err place) e p =

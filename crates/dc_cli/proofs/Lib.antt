@@ -3,9 +3,11 @@ pub mod SpelledLemmas
 pub mod ShelfLemmas
 pub mod MakingLemmas
 pub mod ReplayLemmas
+pub mod AlteringLemmas
 pub mod TotalLemmas
 pub mod TrialLemmas
 pub mod RanLemmas
 pub mod PromiseLemmas
+pub mod WantedLemmas
 pub mod TheoremLemmas
 mod Rows

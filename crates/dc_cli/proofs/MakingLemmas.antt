@@ -6,7 +6,7 @@ use Rattle.dc_cli.specs.Making.{Making, MadeOfFile, MakesOf}
 use Rattle.dc_cli.specs.Promises.{LeavesOthers, TellsName}
 use Rattle.dc_cli.specs.declared.outcome.FileFault.{FileFault}
 use Rattle.dc_cli.specs.declared.outcome.Outcome.{Outcome}
-use Rattle.dc_cli.specs.declared.outcome.Outcome.TheVariants.{Done, Usage, Missing, TooLong, Malformed, Disagree, ShelfFault, SinkFault, NoMemory}
+use Rattle.dc_cli.specs.declared.outcome.Outcome.TheVariants.{Done, Usage, Missing, TooLong, Malformed, Disagree, Refused, ShelfFault, SinkFault, NoMemory}
 use Rattle.dc_edge.proofs.PutLemmas.{Rose-earlier}
 use Rattle.dc_cli.proofs.ShelfLemmas.{told_bytes, held_is_there, held_within, others_since, others_of_all, AskedUpTo, asked_none, asked_first, asked_whole, asked_two, LastAsked, last_is}
 
@@ -20,6 +20,7 @@ MadeOfFile-kept m s s' (Err NoMemory) p = elim p [ inl u ↦ u.0 | inr g ↦ g.r
 MadeOfFile-kept m s s' (Err Done) p = absurd p
 MadeOfFile-kept m s s' (Err (Usage place)) p = absurd p
 MadeOfFile-kept m s s' (Err (Disagree fault)) p = absurd p
+MadeOfFile-kept m s s' (Err (Refused fault)) p = absurd p
 MadeOfFile-kept m s s' (Err SinkFault) p = absurd p
 
 -- the name that is written may change, no other name does
@@ -38,6 +39,7 @@ MadeOfFile-asked m s s' (Err NoMemory) p = elim p [ inl u ↦ asked_none (m.sour
 MadeOfFile-asked m s s' (Err Done) p = absurd p
 MadeOfFile-asked m s s' (Err (Usage place)) p = absurd p
 MadeOfFile-asked m s s' (Err (Disagree fault)) p = absurd p
+MadeOfFile-asked m s s' (Err (Refused fault)) p = absurd p
 MadeOfFile-asked m s s' (Err SinkFault) p = absurd p
 
 -- where all was done, the file was asked for, then the name that is written
@@ -99,6 +101,7 @@ MakesOf-ends m s s' (Missing name) read told le calm p = absurd (elim p.1.answer
 MakesOf-ends m s s' (TooLong name) read told le calm p = absurd (elim p.1.answer [ inl above ↦ held_within (s.holds m.source) read m.limit told le above | inr rose ↦ calm rose.1 ])
 MakesOf-ends m s s' (Usage place) read told le calm p = absurd p
 MakesOf-ends m s s' (Disagree fault) read told le calm p = absurd p
+MakesOf-ends m s s' (Refused fault) read told le calm p = absurd p
 MakesOf-ends m s s' SinkFault read told le calm p = absurd p
 
 pub MakesOf-completes : (m : Making) (s s' : ShelfState) (outcome : Outcome) (read bytes : List ℕ) → s.holds m.source ≡ held read → length read ≤ m.limit → m.due read ≡ Ok bytes

@@ -1,8 +1,5 @@
 -- The promises of a call follow from what it did by its outcome.
-use Rattle.std.proofs.Common.{◌≡◌, ◌≤◌, ◌⊎◌, ℕ, Bool, true, false, List, [], ◌∷◌, length, Some, Result, Ok, Err, inl, inr, refl, sym, ap, ◌∙◌, subst, arith}
-use Rattle.std.specs.Prelude.{IsTrue, codes}
-use Rattle.std.specs.Str.{bytes_eq}
-use Rattle.std.proofs.lemmas.Slice.Eq.{bytes_eq-Decides}
+use Rattle.std.proofs.Common.{◌≡◌, ◌≤◌, ◌⊎◌, ℕ, false, List, [], ◌∷◌, length, Some, Result, Ok, Err, inl, inr, refl, sym, ap, ◌∙◌, subst, arith}
 use Rattle.dc_spec.specs.Outside.{ShelfState, SinkState, absent, held, Rose, grown}
 use Rattle.dc_spec.specs.Limits.{transcript_limit, manifest_limit, key_file_limit}
 use Rattle.dc_spec.specs.Pads.{Keys as PadKeys}
@@ -23,24 +20,29 @@ use Rattle.dc_run_texts.specs.View.{view_text}
 use Rattle.dc_run_texts.specs.Logs.{logs_text}
 use Rattle.dc_superpose.specs.Reading.{transcript_of}
 use Rattle.dc_superpose.specs.declared.fault.TranscriptFault.{TranscriptFault}
-use Rattle.dc_cli.specs.Forms.{is_name, is_form, longest_begun}
-use Rattle.dc_cli.specs.Commands.{Task, sum, keygen, keygen_seeds, migrate, replay, logs, trial, SpellsKeygen, SpellsTrial, SpellsWorkers, unsaid, said, Spells}
+use Rattle.dc_cli.specs.Forms.{is_form, longest_begun}
+use Rattle.dc_cli.specs.Commands.{Task, sum, keygen, keygen_seeds, migrate, replay, logs, twin, steer, trial, Spells}
 use Rattle.dc_cli.specs.Summing.{SummedFile, SumRan, Refused}
 use Rattle.dc_cli.specs.Making.{Making, MakesOf}
 use Rattle.dc_cli.specs.Keygen.{keys_for, keygen_making}
 use Rattle.dc_cli.specs.KeygenSeeds.{seeds_for, seeds_making}
 use Rattle.dc_cli.specs.Migrating.{pads_for, migrate_making}
+use Rattle.dc_cli.specs.Twinning.{twinning}
+use Rattle.dc_cli.specs.Steering.{steering}
+use Rattle.dc_cli.specs.Altering.{Alteration}
+use Rattle.dc_cli.specs.Alterations.{AltersPads, alteration_of, AltersNets}
 use Rattle.dc_cli.specs.Ran.{Ran, CommandRan}
 use Rattle.dc_cli.specs.Promises.{Call, AsksFor, RefusesOtherWords, Leaves, KeepsFiles, AsksInOrder, PrintsOnlyWhenDone, PrintsSums, HasLimit, TellsName, TellsTheLast, MissesTheAbsent, RefusesTheLong, TellsTheFault, RefusesTheMalformed, HasCauses, Completes, MakesFile, making_of, MakesFiles, WritesKeys, WritesSeeds, WritesPads, PrintsView, PrintsLogs, RunsNets, RunsLogs, PrintsSummary, RunsTrials}
 use Rattle.dc_cli.specs.declared.outcome.FileFault.{FileFault}
-use Rattle.dc_cli.specs.declared.outcome.FileFault.TheVariants.{Transcript, Keys, Manifest, Stream, Script}
+use Rattle.dc_cli.specs.declared.outcome.FileFault.TheVariants.{Transcript, Keys, Manifest, Stream, Script, List as Listed}
 use Rattle.dc_cli.specs.declared.outcome.Outcome.{Outcome}
-use Rattle.dc_cli.specs.declared.outcome.Outcome.TheVariants.{Done, Usage, Missing, TooLong, Malformed, Disagree, ShelfFault, SinkFault, NoMemory}
+use Rattle.dc_cli.specs.declared.outcome.Outcome.TheVariants.{Done, Usage, Missing, TooLong, Malformed, Disagree, Refused as Refusing, ShelfFault, SinkFault, NoMemory}
 use Rattle.dc_cli.proofs.ShelfLemmas.{told_bytes, held_is_there, held_within, AskedUpTo, asked_none, asked_first, LastAsked, last_is}
 use Rattle.dc_cli.proofs.ReplayLemmas.{NetRan-kept, NetRan-asked, NetRan-asked_all, NetRan-silent, NetRan-missing, NetRan-long, NetRan-transcript, NetRan-last, NetRan-shelf_rose, NetRan-sink_rose, NetRan-prints, NetRan-completes}
 use Rattle.dc_cli.proofs.SpelledLemmas.{not_both, same_command}
 use Rattle.dc_cli.proofs.TrialLemmas.{TrialRan-silent, TrialRan-prints, TrialRan-sink_rose, TrialRan-completes, TrialRan-untold, counts_all}
 use Rattle.dc_cli.proofs.RanLemmas.{Spells-runnable}
+use Rattle.dc_cli.proofs.AlteringLemmas.{AltersOf-leaves, AltersOf-asked, AltersOf-asked_all, AltersOf-silent, AltersOf-missing, AltersOf-long, AltersOf-transcript, AltersOf-last, AltersOf-shelf_rose, AltersOf-sink_rose, AltersPads-ran}
 use Rattle.dc_cli.proofs.MakingLemmas.{MakesOf-leaves, MakesOf-asked, MakesOf-asked_all, MakesOf-last, MakesOf-rose, MakesOf-missing, MakesOf-long, MakesOf-written, MakesOf-fault, MakesOf-completes, MakesOf-refuses}
 
 refused_words : (words : List (List ℕ)) (s s' : ShelfState) (o o' : SinkState) (outcome : Outcome) → Ran words s s' o o' outcome → is_form words ≡ false → outcome ≡ Usage (longest_begun words)
@@ -60,11 +62,13 @@ SummedFile-kept file s s' (Err (Malformed name (Keys fault))) p = absurd p
 SummedFile-kept file s s' (Err (Malformed name (Manifest fault))) p = absurd p
 SummedFile-kept file s s' (Err (Malformed name (Stream fault))) p = absurd p
 SummedFile-kept file s s' (Err (Malformed name (Script fault))) p = absurd p
+SummedFile-kept file s s' (Err (Malformed name (Listed fault))) p = absurd p
 SummedFile-kept file s s' (Err ShelfFault) p = p.kept
 SummedFile-kept file s s' (Err NoMemory) p = elim p [ inl u ↦ u.0 | inr g ↦ g.read.kept ]
 SummedFile-kept file s s' (Err Done) p = absurd p
 SummedFile-kept file s s' (Err (Usage place)) p = absurd p
 SummedFile-kept file s s' (Err (Disagree fault)) p = absurd p
+SummedFile-kept file s s' (Err (Refusing fault)) p = absurd p
 SummedFile-kept file s s' (Err SinkFault) p = absurd p
 
 SumRan-kept : (file : List ℕ) (s s' : ShelfState) (o o' : SinkState) (outcome : Outcome) → SumRan file s s' o o' outcome → s'.holds ≡ s.holds
@@ -81,11 +85,13 @@ SummedFile-asked file s s' (Err (Malformed name (Keys fault))) p = absurd p
 SummedFile-asked file s s' (Err (Malformed name (Manifest fault))) p = absurd p
 SummedFile-asked file s s' (Err (Malformed name (Stream fault))) p = absurd p
 SummedFile-asked file s s' (Err (Malformed name (Script fault))) p = absurd p
+SummedFile-asked file s s' (Err (Malformed name (Listed fault))) p = absurd p
 SummedFile-asked file s s' (Err ShelfFault) p = asked_first file [] s s' p.asked
 SummedFile-asked file s s' (Err NoMemory) p = elim p [ inl u ↦ asked_none (file ∷ []) s s' u.1 | inr g ↦ asked_first file [] s s' g.read.asked ]
 SummedFile-asked file s s' (Err Done) p = absurd p
 SummedFile-asked file s s' (Err (Usage place)) p = absurd p
 SummedFile-asked file s s' (Err (Disagree fault)) p = absurd p
+SummedFile-asked file s s' (Err (Refusing fault)) p = absurd p
 SummedFile-asked file s s' (Err SinkFault) p = absurd p
 
 SumRan-asked : (file : List ℕ) (s s' : ShelfState) (o o' : SinkState) (outcome : Outcome) → SumRan file s s' o o' outcome → AskedUpTo (file ∷ []) s s'
@@ -108,6 +114,8 @@ CommandRan-leaves (keygen_seeds seed net target) s s' o o' outcome ran = MakesOf
 CommandRan-leaves (migrate keys target) s s' o o' outcome ran = MakesOf-leaves (migrate_making keys target) s s' outcome ran.1
 CommandRan-leaves (replay net workers) s s' o o' outcome ran = NetRan-kept view_text net s s' o o' outcome ran
 CommandRan-leaves (logs net) s s' o o' outcome ran = NetRan-kept logs_text net s s' o o' outcome ran
+CommandRan-leaves (twin net perm target) s s' o o' outcome ran = AltersOf-leaves net (twinning perm target) s s' o o' outcome ran
+CommandRan-leaves (steer net u v wanted target) s s' o o' outcome ran = AltersOf-leaves net (steering u v wanted target) s s' o o' outcome ran
 CommandRan-leaves (trial seed stations count workers) s s' o o' outcome ran = ap (λ (x : ShelfState). x.holds) ran.0
 
 kept_unread : (words : List (List ℕ)) (s s' : ShelfState) (o o' : SinkState) (outcome : Outcome) → is_form words ≡ false → Ran words s s' o o' outcome → s'.holds ≡ s.holds
@@ -122,6 +130,8 @@ CommandRan-asked (keygen_seeds seed net target) s s' o o' outcome ran = (net ∷
 CommandRan-asked (migrate keys target) s s' o o' outcome ran = (keys ∷ target ∷ [], refl, MakesOf-asked (migrate_making keys target) s s' outcome ran.1)
 CommandRan-asked (replay net workers) s s' o o' outcome ran = NetRan-asked view_text net s s' o o' outcome ran
 CommandRan-asked (logs net) s s' o o' outcome ran = NetRan-asked logs_text net s s' o o' outcome ran
+CommandRan-asked (twin net perm target) s s' o o' outcome ran = AltersOf-asked net (twinning perm target) s s' o o' outcome ran
+CommandRan-asked (steer net u v wanted target) s s' o o' outcome ran = AltersOf-asked net (steering u v wanted target) s s' o o' outcome ran
 CommandRan-asked (trial seed stations count workers) s s' o o' outcome ran = ([], refl, asked_none [] s s' (ap (λ (x : ShelfState). x.asked) ran.0))
 
 CommandRan-asked_all : (command : Task) (s s' : ShelfState) (o o' : SinkState) → CommandRan command s s' o o' Done
@@ -132,6 +142,8 @@ CommandRan-asked_all (keygen_seeds seed net target) s s' o o' ran = (net ∷ tar
 CommandRan-asked_all (migrate keys target) s s' o o' ran = (keys ∷ target ∷ [], refl, MakesOf-asked_all (migrate_making keys target) s s' ran.1)
 CommandRan-asked_all (replay net workers) s s' o o' ran = NetRan-asked_all view_text net s s' o o' ran
 CommandRan-asked_all (logs net) s s' o o' ran = NetRan-asked_all logs_text net s s' o o' ran
+CommandRan-asked_all (twin net perm target) s s' o o' ran = AltersOf-asked_all net (twinning perm target) s s' o o' ran
+CommandRan-asked_all (steer net u v wanted target) s s' o o' ran = AltersOf-asked_all net (steering u v wanted target) s s' o o' ran
 CommandRan-asked_all (trial seed stations count workers) s s' o o' ran = ([], refl, ap (λ (x : ShelfState). x.asked) ran.0 ∙ grown-nothing s.asked)
 
 asked_all : (command : Task) (s s' : ShelfState) (o o' : SinkState) (outcome : Outcome) → outcome ≡ Done → CommandRan command s s' o o' outcome
@@ -155,6 +167,8 @@ CommandRan-silent (keygen_seeds seed net target) s s' o o' outcome not_done not_
 CommandRan-silent (migrate keys target) s s' o o' outcome not_done not_sink p = p.0
 CommandRan-silent (replay net workers) s s' o o' outcome not_done not_sink p = NetRan-silent view_text net s s' o o' outcome not_done not_sink p
 CommandRan-silent (logs net) s s' o o' outcome not_done not_sink p = NetRan-silent logs_text net s s' o o' outcome not_done not_sink p
+CommandRan-silent (twin net perm target) s s' o o' outcome not_done not_sink p = AltersOf-silent net (twinning perm target) s s' o o' outcome not_done not_sink p
+CommandRan-silent (steer net u v wanted target) s s' o o' outcome not_done not_sink p = AltersOf-silent net (steering u v wanted target) s s' o o' outcome not_done not_sink p
 CommandRan-silent (trial seed stations count workers) s s' o o' outcome not_done not_sink p = TrialRan-silent seed stations count o o' outcome not_done not_sink p.1
 
 silent : (words : List (List ℕ)) (s s' : ShelfState) (o o' : SinkState) (outcome : Outcome) → (outcome ≡ Done → ⊥) → (outcome ≡ SinkFault → ⊥) → Ran words s s' o o' outcome → o' ≡ o
@@ -180,6 +194,8 @@ missing_cause (keygen_seeds seed net target) s s' o o' name ran = MakesOf-missin
 missing_cause (migrate keys target) s s' o o' name ran = MakesOf-missing (migrate_making keys target) s s' name ran.1
 missing_cause (replay net workers) s s' o o' name ran = NetRan-missing view_text net name s s' o o' ran
 missing_cause (logs net) s s' o o' name ran = NetRan-missing logs_text net name s s' o o' ran
+missing_cause (twin net perm target) s s' o o' name ran = AltersOf-missing net (twinning perm target) name s s' o o' ran
+missing_cause (steer net u v wanted target) s s' o o' name ran = AltersOf-missing net (steering u v wanted target) name s s' o o' ran
 missing_cause (trial seed stations count workers) s s' o o' name ran = absurd ran.1
 
 missing : (words : List (List ℕ)) (s s' : ShelfState) (o o' : SinkState) (outcome : Outcome) (name : List ℕ) → outcome ≡ Missing name → Ran words s s' o o' outcome
@@ -197,6 +213,8 @@ long_cause (keygen_seeds seed net target) s s' o o' name ran = (manifest_limit, 
 long_cause (migrate keys target) s s' o o' name ran = (key_file_limit, (ran.1.0, refl), MakesOf-long (migrate_making keys target) s s' name ran.1)
 long_cause (replay net workers) s s' o o' name ran = NetRan-long view_text net name s s' o o' ran
 long_cause (logs net) s s' o o' name ran = NetRan-long logs_text net name s s' o o' ran
+long_cause (twin net perm target) s s' o o' name ran = AltersOf-long net (twinning perm target) name s s' o o' ran
+long_cause (steer net u v wanted target) s s' o o' name ran = AltersOf-long net (steering u v wanted target) name s s' o o' ran
 long_cause (trial seed stations count workers) s s' o o' name ran = absurd ran.1
 
 too_long : (command : Task) (s s' : ShelfState) (o o' : SinkState) (outcome : Outcome) (name : List ℕ) → outcome ≡ TooLong name → CommandRan command s s' o o' outcome
@@ -228,6 +246,8 @@ fault_cause (keygen_seeds seed net target) s s' o o' name bytes fault told ran =
 fault_cause (migrate keys target) s s' o o' name bytes fault told ran = absurd (no_fault_for_pads (keys_from_bytes ran.1.1.bytes) fault ran.1.1.holds)
 fault_cause (replay net workers) s s' o o' name bytes fault told ran = absurd (NetRan-transcript view_text net name fault s s' o o' ran)
 fault_cause (logs net) s s' o o' name bytes fault told ran = absurd (NetRan-transcript logs_text net name fault s s' o o' ran)
+fault_cause (twin net perm target) s s' o o' name bytes fault told ran = absurd (AltersOf-transcript net (twinning perm target) name fault s s' o o' ran)
+fault_cause (steer net u v wanted target) s s' o o' name bytes fault told ran = absurd (AltersOf-transcript net (steering u v wanted target) name fault s s' o o' ran)
 fault_cause (trial seed stations count workers) s s' o o' name bytes fault told ran = absurd ran.1
 
 malformed : (words : List (List ℕ)) (s s' : ShelfState) (o o' : SinkState) (outcome : Outcome) (name bytes : List ℕ) (fault : TranscriptFault)
@@ -243,6 +263,7 @@ SummedFile-last file s s' name (Keys fault) p = absurd p
 SummedFile-last file s s' name (Manifest fault) p = absurd p
 SummedFile-last file s s' name (Stream fault) p = absurd p
 SummedFile-last file s s' name (Script fault) p = absurd p
+SummedFile-last file s s' name (Listed fault) p = absurd p
 
 SumRan-last : (file : List ℕ) (s s' : ShelfState) (o o' : SinkState) (outcome : Outcome) (name : List ℕ) → TellsName outcome name → SumRan file s s' o o' outcome → LastAsked name s s'
 SumRan-last file s s' o o' outcome name tells p =
@@ -262,6 +283,8 @@ CommandRan-last (keygen_seeds seed net target) s s' o o' outcome name tells p = 
 CommandRan-last (migrate keys target) s s' o o' outcome name tells p = MakesOf-last (migrate_making keys target) s s' outcome name tells p.1
 CommandRan-last (replay net workers) s s' o o' outcome name tells p = NetRan-last view_text net s s' o o' outcome name tells p
 CommandRan-last (logs net) s s' o o' outcome name tells p = NetRan-last logs_text net s s' o o' outcome name tells p
+CommandRan-last (twin net perm target) s s' o o' outcome name tells p = AltersOf-last net (twinning perm target) s s' o o' outcome name tells p
+CommandRan-last (steer net u v wanted target) s s' o o' outcome name tells p = AltersOf-last net (steering u v wanted target) s s' o o' outcome name tells p
 CommandRan-last (trial seed stations count workers) s s' o o' outcome name tells p = absurd (TrialRan-untold seed stations count o o' outcome name tells p.1)
 
 last_asked : (words : List (List ℕ)) (s s' : ShelfState) (o o' : SinkState) (outcome : Outcome) (name : List ℕ) → TellsName outcome name → Ran words s s' o o' outcome → LastAsked name s s'
@@ -275,6 +298,8 @@ shelf_rose (keygen_seeds seed net target) s s' o o' ran = MakesOf-rose (seeds_ma
 shelf_rose (migrate keys target) s s' o o' ran = MakesOf-rose (migrate_making keys target) s s' ran.1
 shelf_rose (replay net workers) s s' o o' ran = NetRan-shelf_rose view_text net s s' o o' ran
 shelf_rose (logs net) s s' o o' ran = NetRan-shelf_rose logs_text net s s' o o' ran
+shelf_rose (twin net perm target) s s' o o' ran = AltersOf-shelf_rose net (twinning perm target) s s' o o' ran
+shelf_rose (steer net u v wanted target) s s' o o' ran = AltersOf-shelf_rose net (steering u v wanted target) s s' o o' ran
 shelf_rose (trial seed stations count workers) s s' o o' ran = absurd ran.1
 
 sink_rose : (command : Task) (s s' : ShelfState) (o o' : SinkState) → CommandRan command s s' o o' SinkFault → Rose o.faults o'.faults
@@ -284,6 +309,8 @@ sink_rose (keygen_seeds seed net target) s s' o o' ran = absurd ran.1
 sink_rose (migrate keys target) s s' o o' ran = absurd ran.1
 sink_rose (replay net workers) s s' o o' ran = NetRan-sink_rose view_text net s s' o o' ran
 sink_rose (logs net) s s' o o' ran = NetRan-sink_rose logs_text net s s' o o' ran
+sink_rose (twin net perm target) s s' o o' ran = AltersOf-sink_rose net (twinning perm target) s s' o o' ran
+sink_rose (steer net u v wanted target) s s' o o' ran = AltersOf-sink_rose net (steering u v wanted target) s s' o o' ran
 sink_rose (trial seed stations count workers) s s' o o' ran = TrialRan-sink_rose seed stations count o o' ran.1
 
 shelf_cause : (words : List (List ℕ)) (s s' : ShelfState) (o o' : SinkState) (outcome : Outcome) → outcome ≡ ShelfFault → Ran words s s' o o' outcome → Rose s.faults s'.faults
@@ -307,6 +334,7 @@ SumRan-completes file session s s' o o' SinkFault is told le calm_shelf calm_sin
 SumRan-completes file session s s' o o' ShelfFault is told le calm_shelf calm_sink p = absurd (calm_shelf p.1.answer)
 SumRan-completes file session s s' o o' (Usage place) is told le calm_shelf calm_sink p = absurd p.1
 SumRan-completes file session s s' o o' (Disagree fault) is told le calm_shelf calm_sink p = absurd p.1
+SumRan-completes file session s s' o o' (Refusing fault) is told le calm_shelf calm_sink p = absurd p.1
 SumRan-completes file session s s' o o' (Missing name) is told le calm_shelf calm_sink p =
     absurd (elim p.1.1.answer [ inl gone ↦ held_is_there (s.holds file) (transcript_bytes session) told gone | inr rose ↦ calm_shelf rose.1 ])
 SumRan-completes file session s s' o o' (TooLong name) is told le calm_shelf calm_sink p =
@@ -315,6 +343,7 @@ SumRan-completes file session s s' o o' (Malformed name (Keys fault)) is told le
 SumRan-completes file session s s' o o' (Malformed name (Manifest fault)) is told le calm_shelf calm_sink p = absurd p.1
 SumRan-completes file session s s' o o' (Malformed name (Stream fault)) is told le calm_shelf calm_sink p = absurd p.1
 SumRan-completes file session s s' o o' (Malformed name (Script fault)) is told le calm_shelf calm_sink p = absurd p.1
+SumRan-completes file session s s' o o' (Malformed name (Listed fault)) is told le calm_shelf calm_sink p = absurd p.1
 SumRan-completes file session s s' o o' (Malformed name (Transcript fault)) is told le calm_shelf calm_sink p =
     let same : p.1.1.bytes ≡ transcript_bytes session = told_bytes (s.holds file) (transcript_bytes session) p.1.1.bytes told p.1.1.read.answer.1 in
     absurd (p.1.1.holds.no_transcript session is same)
@@ -333,6 +362,7 @@ SumRan-refuses file bytes fault s s' o o' SinkFault told le bad calm p =
 SumRan-refuses file bytes fault s s' o o' ShelfFault told le bad calm p = absurd (calm p.1.answer)
 SumRan-refuses file bytes fault s s' o o' (Usage place) told le bad calm p = absurd p.1
 SumRan-refuses file bytes fault s s' o o' (Disagree seen) told le bad calm p = absurd p.1
+SumRan-refuses file bytes fault s s' o o' (Refusing seen) told le bad calm p = absurd p.1
 SumRan-refuses file bytes fault s s' o o' (Missing name) told le bad calm p =
     absurd (elim p.1.1.answer [ inl gone ↦ held_is_there (s.holds file) bytes told gone | inr rose ↦ calm rose.1 ])
 SumRan-refuses file bytes fault s s' o o' (TooLong name) told le bad calm p =
@@ -341,6 +371,7 @@ SumRan-refuses file bytes fault s s' o o' (Malformed name (Keys seen)) told le b
 SumRan-refuses file bytes fault s s' o o' (Malformed name (Manifest seen)) told le bad calm p = absurd p.1
 SumRan-refuses file bytes fault s s' o o' (Malformed name (Stream seen)) told le bad calm p = absurd p.1
 SumRan-refuses file bytes fault s s' o o' (Malformed name (Script seen)) told le bad calm p = absurd p.1
+SumRan-refuses file bytes fault s s' o o' (Malformed name (Listed seen)) told le bad calm p = absurd p.1
 SumRan-refuses file bytes fault s s' o o' (Malformed name (Transcript seen)) told le bad calm p =
     let same : p.1.1.bytes ≡ bytes = told_bytes (s.holds file) bytes p.1.1.bytes told p.1.1.read.answer.1 in
     let other : transcript_of bytes ≡ Err seen = ap transcript_of (sym same) ∙ p.1.1.holds.first_fault in
@@ -428,6 +459,8 @@ MakesFiles-ran : (c : Call) (command : Task) (m : Making) → making_of command 
 MakesFiles-ran c (sum file) m e ran = absurd cc
 MakesFiles-ran c (replay net workers) m e ran = absurd cc
 MakesFiles-ran c (logs net) m e ran = absurd cc
+MakesFiles-ran c (twin net perm target) m e ran = absurd cc
+MakesFiles-ran c (steer net u v wanted target) m e ran = absurd cc
 MakesFiles-ran c (trial seed stations count workers) m e ran = absurd cc
 MakesFiles-ran c (keygen seed net target) m e ran = let same : keygen_making seed net target ≡ m = cc in rw (← same) (MakesFile-run c (keygen_making seed net target) ran.0 ran.1)
 MakesFiles-ran c (keygen_seeds seed net target) m e ran = let same : seeds_making seed net target ≡ m = cc in rw (← same) (MakesFile-run c (seeds_making seed net target) ran.0 ran.1)
@@ -435,6 +468,30 @@ MakesFiles-ran c (migrate keys target) m e ran = let same : migrate_making keys 
 
 pub MakesFiles-run : (c : Call) → HasRun c → MakesFiles c
 MakesFiles-run c ran = λ command m p e. MakesFiles-ran c command m e (HasRun-as c command p ran)
+
+-- two things that are the same two
+same_two : (p q : List ℕ × Alteration) → Some p ≡ Some q → (p.0 ≡ q.0) × (p.1 ≡ q.1)
+same_two p q e = let same : p ≡ q = cc in (ap (λ (t : List ℕ × Alteration). t.0) same, ap (λ (t : List ℕ × Alteration). t.1) same)
+
+-- the commands that alter the pads of a net
+AltersNets-ran : (c : Call) (command : Task) (source : List ℕ) (m : Alteration) → alteration_of command ≡ Some (source, m)
+    → CommandRan command c.shelf c.shelf' c.out c.out' c.outcome → AltersPads c source m
+AltersNets-ran c (sum file) source m e ran = absurd cc
+AltersNets-ran c (keygen seed net target) source m e ran = absurd cc
+AltersNets-ran c (keygen_seeds seed net target) source m e ran = absurd cc
+AltersNets-ran c (migrate keys target) source m e ran = absurd cc
+AltersNets-ran c (replay net workers) source m e ran = absurd cc
+AltersNets-ran c (logs net) source m e ran = absurd cc
+AltersNets-ran c (trial seed stations count workers) source m e ran = absurd cc
+AltersNets-ran c (twin net perm target) source m e ran =
+    let same = same_two (net, twinning perm target) (source, m) e in
+    rw (← same.0, ← same.1) (AltersPads-ran c net (twinning perm target) ran)
+AltersNets-ran c (steer net u v wanted target) source m e ran =
+    let same = same_two (net, steering u v wanted target) (source, m) e in
+    rw (← same.0, ← same.1) (AltersPads-ran c net (steering u v wanted target) ran)
+
+pub AltersNets-run : (c : Call) → HasRun c → AltersNets c
+AltersNets-run c ran = λ command source m p e. AltersNets-ran c command source m e (HasRun-as c command p ran)
 
 same_bytes : (xs ys : List ℕ) (r : Result (List ℕ) FileFault) → r ≡ Ok ys → Ok xs ≡ r → ys ≡ xs
 same_bytes xs ys r a b = cc

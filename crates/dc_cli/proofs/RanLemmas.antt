@@ -6,10 +6,13 @@ use Rattle.dc_spec.specs.Outside.{ShelfState, SinkState}
 use Rattle.dc_field.specs.NumberInText.{number_in}
 use Rattle.dc_spec.specs.Limits.{most_stations, most_words}
 use Rattle.dc_cli.specs.Forms.{where_between, most_words_of}
-use Rattle.dc_cli.specs.Commands.{Task, sum, keygen, keygen_seeds, migrate, replay, logs, trial, SpellsWorkers, unsaid, said, Spells, IsRunnable}
+use Rattle.dc_cli.specs.Commands.{Task, sum, keygen, keygen_seeds, migrate, replay, logs, twin, steer, trial, SpellsWorkers, unsaid, said, Spells, IsRunnable}
 use Rattle.dc_cli.specs.Ran.{Ran, CommandRan}
 use Rattle.dc_run_texts.specs.View.{view_text}
 use Rattle.dc_run_texts.specs.Logs.{logs_text}
+use Rattle.dc_cli.specs.Twinning.{twinning}
+use Rattle.dc_cli.specs.Steering.{steering}
+use Rattle.dc_cli.proofs.AlteringLemmas.{AltersOf-usage}
 use Rattle.dc_cli.proofs.ReplayLemmas.{NetRan-usage}
 use Rattle.dc_cli.proofs.TrialLemmas.{TrialRan-usage}
 use Rattle.dc_cli.specs.declared.outcome.Outcome.{Outcome}
@@ -23,6 +26,8 @@ CommandRan-usage (keygen_seeds seed net target) s s' o o' place ran = ran.1
 CommandRan-usage (migrate keys target) s s' o o' place ran = ran.1
 CommandRan-usage (replay net workers) s s' o o' place ran = NetRan-usage view_text net s s' o o' place ran
 CommandRan-usage (logs net) s s' o o' place ran = NetRan-usage logs_text net s s' o o' place ran
+CommandRan-usage (twin net perm target) s s' o o' place ran = AltersOf-usage net (twinning perm target) s s' o o' place ran
+CommandRan-usage (steer net u v wanted target) s s' o o' place ran = AltersOf-usage net (steering u v wanted target) s s' o o' place ran
 CommandRan-usage (trial seed stations count workers) s s' o o' place ran = TrialRan-usage seed stations count place o o' ran.1
 
 pub Ran-command : (words : List (List ℕ)) (command : Task) (s s' : ShelfState) (o o' : SinkState) (outcome : Outcome) → Spells words command → CommandRan command s s' o o' outcome
@@ -46,6 +51,8 @@ Spells-runnable words (keygen_seeds seed net target) p = tt
 Spells-runnable words (migrate keys target) p = tt
 Spells-runnable words (replay net workers) p = workers_limits p.2.rest workers p.2.workers_are
 Spells-runnable words (logs net) p = tt
+Spells-runnable words (twin net perm target) p = tt
+Spells-runnable words (steer net u v wanted target) p = tt
 Spells-runnable words (trial seed stations count workers) p =
     let q = p.2 in
     let some = between_limits 1 most_stations (number_in q.of_stations) stations q.stations_are in

@@ -25,7 +25,7 @@ use Rattle.dc_cli.specs.Promises.{TellsName, NamesOfNet, NeedsOfNet, next_name}
 use Rattle.dc_cli.proofs.ShelfLemmas.{LastAsked, AskedUpTo}
 
 -- all files stay, whatever the answer
-Ended-kept : {A : Type 0} (reader : Reader A) (s s' : ShelfState) (r : Result A NotRead) → Ended reader s s' r → s'.holds ≡ s.holds
+pub Ended-kept : {A : Type 0} (reader : Reader A) (s s' : ShelfState) (r : Result A NotRead) → Ended reader s s' r → s'.holds ≡ s.holds
 Ended-kept reader s s' (Ok x) p = p.gave.kept
 Ended-kept reader s s' (Err (refusals.Missing name)) p = p.read.kept ∙ p.gave.kept
 Ended-kept reader s s' (Err (refusals.TooLong name)) p = p.read.kept ∙ p.gave.kept
@@ -196,7 +196,7 @@ settles_made net left step refusal e p = let P : Step Net → Type 0 = λ x. Set
     settled net left (refusals.Disagree fault) p = absurd p
     settled net left refusals.ShelfFault p = absurd p
 
-refuses_not : (name : List ℕ) (s s' : ShelfState) (outcome : Outcome) (files : List File) (net : Net) → AreNeeded (net_step name) files → AreHeld s.holds files
+pub refuses_not : (name : List ℕ) (s s' : ShelfState) (outcome : Outcome) (files : List File) (net : Net) → AreNeeded (net_step name) files → AreHeld s.holds files
     → net_step name (bytes_of files) ≡ makes net [] → (Rose s.faults s'.faults → ⊥) → RefusesNet name s s' outcome → outcome ≡ NoMemory
 refuses_not name s s' outcome files net needed holds made calm p =
     p.outcome_is ∙ ap outcome_of (settles_made net [] (net_step name (bytes_of files)) p.refusal made (p.reads.settled files needed holds calm))
@@ -243,7 +243,7 @@ pub NetRan-transcript : (text : Net → Run → List ℕ) (name seen : List ℕ)
 NetRan-transcript text name seen fault s s' o o' p = transcript_of_none seen fault p.1.refusal p.1.outcome_is
 
 -- a front of the names of the net was asked for
-abbrev AsksNames : List ℕ → ShelfState → ShelfState → Type 0
+abbrev pub AsksNames : List ℕ → ShelfState → ShelfState → Type 0
 AsksNames name s s' = (names : List (List ℕ)) × NamesOfNet name s names × AskedUpTo names s s'
 
 gave_names : (name : List ℕ) (files : List File) (s s' : ShelfState) → Gave (net_step name) files s s' → AsksNames name s s'

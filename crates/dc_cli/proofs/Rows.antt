@@ -2,7 +2,7 @@
 use Rattle.std.proofs.Common.{◌≡◌, true, false, pos, negsuc, [], ◌∷◌, ◌++◌, refl}
 use Rattle.std.specs.Prelude.{codes}
 use Rattle.std.specs.Fmt.{digits}
-use Rattle.dc_spec.specs.Limits.{transcript_limit, manifest_limit, key_file_limit}
+use Rattle.dc_spec.specs.Limits.{transcript_limit, manifest_limit, key_file_limit, permutation_limit, wanted_words_limit}
 use Rattle.dc_superpose.specs.declared.fault.TranscriptFault.TheVariants.{Truncated, Magic, Stations, Words, Symbol, Rest}
 use Rattle.dc_keyfile.specs.declared.fault.KeyFault.TheVariants as key
 use Rattle.dc_graph.specs.declared.fault.GraphFault.TheVariants as graph
@@ -10,11 +10,15 @@ use Rattle.dc_manifest.specs.declared.fault.ManifestFault.TheVariants as manifes
 use Rattle.dc_stream.specs.declared.fault.StreamKind.TheVariants as stream
 use Rattle.dc_script.specs.declared.fault.ScriptKind.TheVariants as script
 use Rattle.dc_net.specs.declared.fault.NetFault.TheVariants as net
+use Rattle.dc_field.specs.declared.list_fault.ListKind.TheVariants as line_kinds
+use Rattle.dc_twin.specs.declared.fault.TwinFault.TheVariants as twins
+use Rattle.dc_steer.specs.declared.fault.SteerFault.TheVariants as steerings
 use Rattle.dc_cli.specs.Forms.{is_form, longest_begun}
 use Rattle.dc_cli.specs.Lines.{fault_line}
 use Rattle.dc_cli.specs.Outcomes.{status_of}
-use Rattle.dc_cli.specs.declared.outcome.FileFault.TheVariants.{Transcript, Keys, Manifest, Stream, Script}
-use Rattle.dc_cli.specs.declared.outcome.Outcome.TheVariants.{Done, Usage, Missing, TooLong, Malformed, Disagree, ShelfFault, SinkFault, NoMemory}
+use Rattle.dc_cli.specs.declared.outcome.FileFault.TheVariants.{Transcript, Keys, Manifest, Stream, Script, List as Listed}
+use Rattle.dc_cli.specs.declared.outcome.CommandFault.TheVariants.{Twin, Steer}
+use Rattle.dc_cli.specs.declared.outcome.Outcome.TheVariants.{Done, Usage, Missing, TooLong, Malformed, Disagree, Refused, ShelfFault, SinkFault, NoMemory}
 
 -- the most bytes of each file
 limit-transcript : transcript_limit ≡ 134217728
@@ -25,6 +29,12 @@ limit-manifest = refl
 
 limit-key_file : key_file_limit ≡ 269484032
 limit-key_file = refl
+
+limit-permutation : permutation_limit ≡ 4096
+limit-permutation = refl
+
+limit-wanted_words : wanted_words_limit ≡ 1048576
+limit-wanted_words = refl
 
 -- ---- statuses
 
@@ -191,6 +201,55 @@ manifest-TooLarge : fault_line (Malformed (codes "f") (Manifest (manifest.TooLar
 unfolding digits
 manifest-TooLarge = refl
 
+-- ---- refused twins and steerings, and lists
+
+status-Refused : status_of (Refused (Steer steerings.NeverDiffered)) ≡ 7
+status-Refused = refl
+
+line-List : fault_line (Malformed (codes "p.txt") (Listed (record { line = 3; kind = line_kinds.Number }))) ≡ codes "dcnet: p.txt: malformed: line=3 number" ++ 10 ∷ []
+unfolding digits
+line-List = refl
+
+line-PermCount : fault_line (Refused (Twin (twins.PermCount 3 4))) ≡ codes "dcnet: refused: perm-count have=3 need=4" ++ 10 ∷ []
+unfolding digits
+line-PermCount = refl
+
+line-Perm : fault_line (Refused (Twin (twins.Perm 1))) ≡ codes "dcnet: refused: perm place=1" ++ 10 ∷ []
+unfolding digits
+line-Perm = refl
+
+line-NotJoined : fault_line (Refused (Twin (twins.NotJoined 0 2))) ≡ codes "dcnet: refused: not-joined station=0 image=2" ++ 10 ∷ []
+unfolding digits
+line-NotJoined = refl
+
+line-NotAlike : fault_line (Refused (Twin (twins.NotAlike 3 0 2))) ≡ codes "dcnet: refused: not-alike round=3 first=0 second=2" ++ 10 ∷ []
+unfolding digits
+line-NotAlike = refl
+
+line-NotNeighbours : fault_line (Refused (Steer (steerings.NotNeighbours 1 0))) ≡ codes "dcnet: refused: not-neighbours u=1 v=0" ++ 10 ∷ []
+unfolding digits
+line-NotNeighbours = refl
+
+line-NotHonest : fault_line (Refused (Steer (steerings.NotHonest 2))) ≡ codes "dcnet: refused: not-honest station=2" ++ 10 ∷ []
+unfolding digits
+line-NotHonest = refl
+
+line-NeverDiffered : fault_line (Refused (Steer steerings.NeverDiffered)) ≡ codes "dcnet: refused: never-differed" ++ 10 ∷ []
+unfolding digits
+line-NeverDiffered = refl
+
+line-SumDelivery : fault_line (Refused (Steer (steerings.SumDelivery 1))) ≡ codes "dcnet: refused: sum-delivery round=1" ++ 10 ∷ []
+unfolding digits
+line-SumDelivery = refl
+
+line-RuledRound : fault_line (Refused (Steer (steerings.RuledRound 1))) ≡ codes "dcnet: refused: ruled-round round=1" ++ 10 ∷ []
+unfolding digits
+line-RuledRound = refl
+
+line-WantedWords : fault_line (Refused (Steer (steerings.WantedWords 0 1))) ≡ codes "dcnet: refused: wanted-words have=0 need=1" ++ 10 ∷ []
+unfolding digits
+line-WantedWords = refl
+
 -- ---- nets
 
 status-Disagree : status_of (Disagree (net.KeyMissing 0 2)) ≡ 6
@@ -278,3 +337,18 @@ trial-seed = refl
 trial-more : longest_begun (codes "trial" ∷ codes "7" ∷ codes "1" ∷ codes "1" ∷ codes "--workers" ∷ codes "1" ∷ codes "1" ∷ []) ≡ 6
 unfolding digits
 trial-more = refl
+
+-- `twin` has three names, and `steer` two stations from 0 to 255 and three names
+form-twin : is_form (codes "twin" ∷ codes "n" ∷ codes "p" ∷ codes "o" ∷ []) ≡ true
+form-twin = refl
+
+form-twin_more : longest_begun (codes "twin" ∷ codes "n" ∷ codes "p" ∷ codes "o" ∷ codes "x" ∷ []) ≡ 4
+form-twin_more = refl
+
+form-steer : is_form (codes "steer" ∷ codes "n" ∷ codes "0" ∷ codes "255" ∷ codes "w" ∷ codes "o" ∷ []) ≡ true
+unfolding digits
+form-steer = refl
+
+form-steer_256 : longest_begun (codes "steer" ∷ codes "n" ∷ codes "0" ∷ codes "256" ∷ codes "w" ∷ codes "o" ∷ []) ≡ 3
+unfolding digits
+form-steer_256 = refl

@@ -5,7 +5,7 @@ use Rattle.std.specs.Str.{bytes_eq}
 use Rattle.std.proofs.lemmas.Slice.Eq.{bytes_eq-Decides}
 use Rattle.dc_spec.specs.Limits.{most_stations}
 use Rattle.dc_cli.specs.Forms.{Slot, number, number_between, fits, spells, workers_slots, most_words_of, stations_in, words_slots, stations_slots, trial_slots, is_name, is_form}
-use Rattle.dc_cli.specs.Commands.{Task, sum, keygen, keygen_seeds, migrate, replay, logs, trial, SpellsKeygen, SpellsWorkers, unsaid, said, SpellsTrial, Spells}
+use Rattle.dc_cli.specs.Commands.{Task, sum, keygen, keygen_seeds, migrate, replay, logs, twin, steer, trial, SpellsKeygen, SpellsTwin, SpellsSteer, SpellsWorkers, unsaid, said, SpellsTrial, Spells}
 
 -- a name as a test of its truth
 name_is : (b : Bool) → IsTrue b → b ≡ true
@@ -56,6 +56,23 @@ trial_form words seed stations count workers q (said digits are counted) =
     let form : is_form (codes "trial" ∷ all) ≡ true = form_said all more fit in
     ap (λ (ws : List (List ℕ)). is_form (codes "trial" ∷ ws)) q.words_are ∙ form
 
+twin_form : (words : List (List ℕ)) (net perm target : List ℕ) → SpellsTwin words net perm target → is_form (codes "twin" ∷ words) ≡ true
+twin_form words net perm target q =
+    let net_named : is_name net ≡ true = name_is (is_name net) q.net_is in
+    let perm_named : is_name perm ≡ true = name_is (is_name perm) q.perm_is in
+    let target_named : is_name target ≡ true = name_is (is_name target) q.target_is in
+    rw (q.words_are, net_named, perm_named, target_named) refl
+
+steer_form : (words : List (List ℕ)) (net : List ℕ) (u v : ℕ) (wanted target : List ℕ) → SpellsSteer words net u v wanted target → is_form (codes "steer" ∷ words) ≡ true
+steer_form words net u v wanted target q =
+    let ends = q.ends in
+    let second = ends.second in
+    let names = second.names in
+    let net_named : is_name net ≡ true = name_is (is_name net) q.net_is in
+    let wanted_named : is_name wanted ≡ true = name_is (is_name wanted) names.wanted_is in
+    let target_named : is_name target ≡ true = name_is (is_name target) names.target_is in
+    rw (q.words_are, ends.words_are, second.words_are, names.words_are, net_named, ends.u_is, second.v_is, wanted_named, target_named) refl
+
 -- the words of a command are a form
 Spells-form : (words : List (List ℕ)) (command : Task) → Spells words command → is_form words ≡ true
 Spells-form words (sum file) p = let named : is_name file ≡ true = name_is (is_name file) p.1 in rw (p.0, named) refl
@@ -75,6 +92,8 @@ Spells-form words (replay net workers) p =
     let q = p.2 in
     replay_form words net workers q.rest p.1 q.words_are (name_is (is_name net) q.net_is) q.workers_are
 Spells-form words (logs net) p = let named : is_name net ≡ true = name_is (is_name net) p.1 in rw (p.0, named) refl
+Spells-form words (twin net perm target) p = ap is_form p.1 ∙ twin_form p.0 net perm target p.2
+Spells-form words (steer net u v wanted target) p = ap is_form p.1 ∙ steer_form p.0 net u v wanted target p.2
 Spells-form words (trial seed stations count workers) p = ap is_form p.1 ∙ trial_form p.0 seed stations count workers p.2 p.2.workers_are
 
 pub not_both : (words : List (List ℕ)) (command : Task) → Spells words command → is_form words ≡ false → ⊥
@@ -126,6 +145,39 @@ same_trial words seed stations count workers seed' stations' count' workers' p q
     let shared : workers ≡ workers' = same_workers p.rest workers workers' p.workers_are (subst W rests q.workers_are) in
     cc
 
+-- the words of `twin` spell three names
+same_twin : (words : List (List ℕ)) (net perm target net' perm' target' : List ℕ) → SpellsTwin words net perm target → SpellsTwin words net' perm' target'
+    → twin net perm target ≡ twin net' perm' target'
+same_twin words net perm target net' perm' target' p q = let a = p.words_are in let b = q.words_are in cc
+
+-- the words of `steer` spell one steering
+same_steer : (words : List (List ℕ)) (net : List ℕ) (u v : ℕ) (wanted target net' : List ℕ) (u' v' : ℕ) (wanted' target' : List ℕ)
+    → SpellsSteer words net u v wanted target → SpellsSteer words net' u' v' wanted' target' → steer net u v wanted target ≡ steer net' u' v' wanted' target'
+same_steer words net u v wanted target net' u' v' wanted' target' p q =
+    let a = p.words_are in
+    let b = q.words_are in
+    let nets : net ≡ net' = cc in
+    let rests : p.rest ≡ q.rest = cc in
+    let a_ends = p.ends.words_are in
+    let b_ends = q.ends.words_are in
+    let digits : p.ends.digits ≡ q.ends.digits = cc in
+    let later : p.ends.rest ≡ q.ends.rest = cc in
+    let a_u = p.ends.u_is in
+    let b_u = q.ends.u_is in
+    let firsts : u ≡ u' = cc in
+    let a_second = p.ends.second.words_are in
+    let b_second = q.ends.second.words_are in
+    let digits_of_v : p.ends.second.digits ≡ q.ends.second.digits = cc in
+    let last : p.ends.second.rest ≡ q.ends.second.rest = cc in
+    let a_v = p.ends.second.v_is in
+    let b_v = q.ends.second.v_is in
+    let seconds : v ≡ v' = cc in
+    let a_names = p.ends.second.names.words_are in
+    let b_names = q.ends.second.names.words_are in
+    let listed : wanted ≡ wanted' = cc in
+    let targets : target ≡ target' = cc in
+    cc
+
 -- the first word
 first_word : List (List ℕ) → List ℕ
 first_word [] = []
@@ -139,6 +191,8 @@ verb_of (keygen_seeds seed net target) = codes "keygen"
 verb_of (migrate keys target) = codes "migrate"
 verb_of (replay net workers) = codes "replay"
 verb_of (logs net) = codes "logs"
+verb_of (twin net perm target) = codes "twin"
+verb_of (steer net u v wanted target) = codes "steer"
 verb_of (trial seed stations count workers) = codes "trial"
 
 Spells-verb : (words : List (List ℕ)) (command : Task) → Spells words command → first_word words ≡ verb_of command
@@ -149,6 +203,8 @@ Spells-verb words (keygen_seeds seed net target) p = ap first_word p.1
 Spells-verb words (migrate keys target) p = ap first_word p.0
 Spells-verb words (replay net workers) p = ap first_word p.1
 Spells-verb words (logs net) p = ap first_word p.0
+Spells-verb words (twin net perm target) p = ap first_word p.1
+Spells-verb words (steer net u v wanted target) p = ap first_word p.1
 Spells-verb words (trial seed stations count workers) p = ap first_word p.1
 
 words_differ : (word other : List ℕ) → word ≡ other → bytes_eq word other ≡ false → ⊥
@@ -182,6 +238,10 @@ with_verb words (replay net workers) (replay net' workers') e p q =
     let counts : workers ≡ workers' = same_workers p.2.rest workers workers' p.2.workers_are (subst W rests q.2.workers_are) in
     cc
 with_verb words (logs net) (logs net') e p q = let a = p.0 in let b = q.0 in let same : net ≡ net' = cc in ap logs same
+with_verb words (twin net perm target) (twin net' perm' target') e p q =
+    same_twin q.0 net perm target net' perm' target' (rw (← same_rest words p.0 q.0 (codes "twin") p.1 q.1) p.2) q.2
+with_verb words (steer net u v wanted target) (steer net' u' v' wanted' target') e p q =
+    same_steer q.0 net u v wanted target net' u' v' wanted' target' (rw (← same_rest words p.0 q.0 (codes "steer") p.1 q.1) p.2) q.2
 with_verb words (trial seed stations count workers) (trial seed' stations' count' workers') e p q =
     same_trial q.0 seed stations count workers seed' stations' count' workers' (rw (← same_rest words p.0 q.0 (codes "trial") p.1 q.1) p.2) q.2
 with_verb words (sum file) other e p q = absurd (words_differ (verb_of (sum file)) (verb_of other) e refl)
@@ -190,6 +250,8 @@ with_verb words (keygen_seeds seed net target) other e p q = absurd (words_diffe
 with_verb words (migrate keys target) other e p q = absurd (words_differ (verb_of (migrate keys target)) (verb_of other) e refl)
 with_verb words (replay net workers) other e p q = absurd (words_differ (verb_of (replay net workers)) (verb_of other) e refl)
 with_verb words (logs net) other e p q = absurd (words_differ (verb_of (logs net)) (verb_of other) e refl)
+with_verb words (twin net perm target) other e p q = absurd (words_differ (verb_of (twin net perm target)) (verb_of other) e refl)
+with_verb words (steer net u v wanted target) other e p q = absurd (words_differ (verb_of (steer net u v wanted target)) (verb_of other) e refl)
 with_verb words (trial seed stations count workers) other e p q = absurd (words_differ (verb_of (trial seed stations count workers)) (verb_of other) e refl)
 
 -- the words spell one command

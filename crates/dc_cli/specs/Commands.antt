@@ -1,9 +1,9 @@
 -- Commands, and the words that spell them.
 use Rattle.std.specs.Prelude.{ℕ, ◌+◌, ◌*◌, ◌≤◌, ◌≡◌, false, List, [], ◌∷◌, ◌++◌, slice_index_or, codes, IsTrue, Some, Result, Ok, Err}
 use Rattle.dc_spec.specs.Limits.{most_stations, most_words}
-use Rattle.dc_cli.specs.Forms.{Slot, literal, name, number, keygen_slots, seeds_slots, workers_slots, most_words_of, words_slots, stations_slots, trial_slots, is_name, seed_in, number_between, begun, spells, is_form, longest_begun}
+use Rattle.dc_cli.specs.Forms.{Slot, literal, name, number, keygen_slots, seeds_slots, twin_slots, second_slots, ends_slots, steer_slots, workers_slots, most_words_of, words_slots, stations_slots, trial_slots, is_name, seed_in, number_between, begun, spells, is_form, longest_begun}
 use Rattle.dc_cli.specs.declared.command.Command.{Command}
-use Rattle.dc_cli.specs.declared.command.Command.TheVariants.{Sum, Keygen, KeygenSeeds, Migrate, Replay, Logs, Trial}
+use Rattle.dc_cli.specs.declared.command.Command.TheVariants.{Sum, Keygen, KeygenSeeds, Migrate, Replay, Logs, Twin, Steer, Trial}
 
 -- a command with its arguments
 pub data Task : Type 0 where
@@ -13,6 +13,8 @@ pub data Task : Type 0 where
   migrate : List ℕ → List ℕ → Task
   replay : List ℕ → ℕ → Task
   logs : List ℕ → Task
+  twin : List ℕ → List ℕ → List ℕ → Task
+  steer : List ℕ → ℕ → ℕ → List ℕ → List ℕ → Task
   trial : ℕ → ℕ → ℕ → ℕ → Task
 
 -- the words spell a seed, the name of a manifest and the name of the key file that is written, and these are left
@@ -35,6 +37,42 @@ pub record SpellsReplay (words : List (List ℕ)) (net : List ℕ) (workers : �
   pub net_is : IsTrue (is_name net)
   pub workers_are : SpellsWorkers rest workers
 
+-- the words spell three names: of a manifest, of a list of images, and of the key file that is written
+pub record SpellsTwin (words : List (List ℕ)) (net perm target : List ℕ) : Type 0 where
+  pub words_are : words ≡ net ∷ perm ∷ target ∷ []
+  pub net_is : IsTrue (is_name net)
+  pub perm_is : IsTrue (is_name perm)
+  pub target_is : IsTrue (is_name target)
+
+-- the words spell two names: of wanted words, and of the key file that is written
+pub record SpellsWanted (words : List (List ℕ)) (wanted target : List ℕ) : Type 0 where
+  pub words_are : words ≡ wanted ∷ target ∷ []
+  pub wanted_is : IsTrue (is_name wanted)
+  pub target_is : IsTrue (is_name target)
+
+-- the words spell a station, and these names after it
+pub record SpellsSecond (words : List (List ℕ)) (v : ℕ) (wanted target : List ℕ) : Type 0 where
+  pub digits : List ℕ
+  pub rest : List (List ℕ)
+  pub words_are : words ≡ digits ∷ rest
+  pub v_is : number_between 0 255 digits ≡ Some v
+  pub names : SpellsWanted rest wanted target
+
+-- the words spell two stations, and these names after them
+pub record SpellsEnds (words : List (List ℕ)) (u v : ℕ) (wanted target : List ℕ) : Type 0 where
+  pub digits : List ℕ
+  pub rest : List (List ℕ)
+  pub words_are : words ≡ digits ∷ rest
+  pub u_is : number_between 0 255 digits ≡ Some u
+  pub second : SpellsSecond rest v wanted target
+
+-- the words spell the name of a manifest, and these after it
+pub record SpellsSteer (words : List (List ℕ)) (net : List ℕ) (u v : ℕ) (wanted target : List ℕ) : Type 0 where
+  pub rest : List (List ℕ)
+  pub words_are : words ≡ net ∷ rest
+  pub net_is : IsTrue (is_name net)
+  pub ends : SpellsEnds rest u v wanted target
+
 -- the words spell the numbers of a trial: its seed, stations and words, and the workers
 pub record SpellsTrial (words : List (List ℕ)) (seed stations count workers : ℕ) : Type 0 where
   pub of_seed : List ℕ
@@ -55,6 +93,8 @@ Spells words (keygen_seeds seed net target) = (rest : List (List ℕ)) × (words
 Spells words (migrate keys target) = (words ≡ codes "migrate" ∷ keys ∷ target ∷ []) × IsTrue (is_name keys) × IsTrue (is_name target)
 Spells words (replay net workers) = (rest : List (List ℕ)) × (words ≡ codes "replay" ∷ rest) × SpellsReplay rest net workers
 Spells words (logs net) = (words ≡ codes "logs" ∷ net ∷ []) × IsTrue (is_name net)
+Spells words (twin net perm target) = (rest : List (List ℕ)) × (words ≡ codes "twin" ∷ rest) × SpellsTwin rest net perm target
+Spells words (steer net u v wanted target) = (rest : List (List ℕ)) × (words ≡ codes "steer" ∷ rest) × SpellsSteer rest net u v wanted target
 Spells words (trial seed stations count workers) = (rest : List (List ℕ)) × (words ≡ codes "trial" ∷ rest) × SpellsTrial rest seed stations count workers
 
 -- the command that was read
@@ -65,6 +105,8 @@ task_of (KeygenSeeds seed net target) = keygen_seeds seed net.now target.now
 task_of (Migrate keys target) = migrate keys.now target.now
 task_of (Replay net workers) = replay net.now workers
 task_of (Logs net) = logs net.now
+task_of (Twin net perm target) = twin net.now perm.now target.now
+task_of (Steer net u v wanted target) = steer net.now u v wanted.now target.now
 task_of (Trial seed stations words workers) = trial seed stations words workers
 
 -- the words were read as the command that they spell, or are not a form
@@ -126,6 +168,37 @@ abbrev pub ReadsAsLogs : List (List ℕ) → Result Command ℕ → Type 0
 ReadsAsLogs words (Ok (Logs net)) = (words ≡ net.now ∷ []) × IsTrue (is_name net.now)
 ReadsAsLogs words (Ok _) = ⊥
 ReadsAsLogs words (Err place) = (spells (name ∷ []) words ≡ false) × (place ≡ 1 + begun (name ∷ []) words)
+
+-- the words after `twin` were read as its names, or do not fit
+abbrev pub ReadsAsTwin : List (List ℕ) → Result Command ℕ → Type 0
+ReadsAsTwin words (Ok (Twin net perm target)) = SpellsTwin words net.now perm.now target.now
+ReadsAsTwin words (Ok _) = ⊥
+ReadsAsTwin words (Err place) = (spells twin_slots words ≡ false) × (place ≡ 1 + begun twin_slots words)
+
+-- the words after `steer` were read as its names and stations, or do not fit
+abbrev pub ReadsAsSteer : List (List ℕ) → Result Command ℕ → Type 0
+ReadsAsSteer words (Ok (Steer net u v wanted target)) = SpellsSteer words net.now u v wanted.now target.now
+ReadsAsSteer words (Ok _) = ⊥
+ReadsAsSteer words (Err place) = (spells steer_slots words ≡ false) × (place ≡ 1 + begun steer_slots words)
+
+-- the words after the manifest of `steer` were read, or do not fit
+abbrev pub ReadsAsEnds : List ℕ → List (List ℕ) → Result Command ℕ → Type 0
+ReadsAsEnds net words (Ok (Steer named u v wanted target)) = (named.now ≡ net) × SpellsEnds words u v wanted.now target.now
+ReadsAsEnds net words (Ok _) = ⊥
+ReadsAsEnds net words (Err place) = (spells ends_slots words ≡ false) × (place ≡ 2 + begun ends_slots words)
+
+-- the words after the first station of `steer` were read, or do not fit
+abbrev pub ReadsAsSecond : List ℕ → ℕ → List (List ℕ) → Result Command ℕ → Type 0
+ReadsAsSecond net u words (Ok (Steer named seen v wanted target)) = (named.now ≡ net) × (seen ≡ u) × SpellsSecond words v wanted.now target.now
+ReadsAsSecond net u words (Ok _) = ⊥
+ReadsAsSecond net u words (Err place) = (spells second_slots words ≡ false) × (place ≡ 3 + begun second_slots words)
+
+-- the words after both stations of `steer` were read, or do not fit
+abbrev pub ReadsAsWanted : List ℕ → ℕ → ℕ → List (List ℕ) → Result Command ℕ → Type 0
+ReadsAsWanted net u v words (Ok (Steer named seen other wanted target)) =
+    (named.now ≡ net) × (seen ≡ u) × (other ≡ v) × SpellsWanted words wanted.now target.now
+ReadsAsWanted net u v words (Ok _) = ⊥
+ReadsAsWanted net u v words (Err place) = (spells (name ∷ name ∷ []) words ≡ false) × (place ≡ 4 + begun (name ∷ name ∷ []) words)
 
 -- the last words, after so many others, were read as a number of workers, or do not fit
 abbrev pub ReadsAsWorkers : ℕ → List (List ℕ) → Result ℕ ℕ → Type 0

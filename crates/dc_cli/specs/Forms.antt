@@ -64,6 +64,20 @@ keygen_slots = seed_word ∷ name ∷ name ∷ []
 abbrev pub seeds_slots : List Slot
 seeds_slots = seed_word ∷ name ∷ name ∷ literal (codes "--seeds") ∷ []
 
+-- what stands after `twin`: the names of a manifest, of a list of images, and of the key file
+abbrev pub twin_slots : List Slot
+twin_slots = name ∷ name ∷ name ∷ []
+
+-- what stands after `steer`: the name of a manifest, two stations, the names of a list of wanted words and of the key file
+abbrev pub second_slots : List Slot
+second_slots = number 0 255 ∷ name ∷ name ∷ []
+
+abbrev pub ends_slots : List Slot
+ends_slots = number 0 255 ∷ second_slots
+
+abbrev pub steer_slots : List Slot
+steer_slots = name ∷ ends_slots
+
 -- the option that gives a number of workers
 abbrev pub workers_slots : List Slot
 workers_slots = literal (codes "--workers") ∷ number 1 64 ∷ []
@@ -97,6 +111,8 @@ forms words =
     ∷ (literal (codes "replay") ∷ name ∷ [])
     ∷ (literal (codes "replay") ∷ name ∷ workers_slots)
     ∷ (literal (codes "logs") ∷ name ∷ [])
+    ∷ (literal (codes "twin") ∷ twin_slots)
+    ∷ (literal (codes "steer") ∷ steer_slots)
     ∷ (literal (codes "trial") ∷ trial_slots stations)
     ∷ (literal (codes "trial") ∷ trial_slots stations ++ workers_slots)
     ∷ []

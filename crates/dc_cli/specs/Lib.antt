@@ -3,6 +3,7 @@ pub mod Pieces
 pub mod KeyFaultText
 pub mod ManifestFaultText
 pub mod NetFaultTexts
+pub mod RefusalTexts
 pub mod Lines
 pub mod Forms
 pub mod Commands
@@ -13,7 +14,11 @@ pub mod Keygen
 pub mod KeygenSeeds
 pub mod Migrating
 pub mod Replaying
+pub mod Altering
+pub mod Twinning
+pub mod Steering
 pub mod Trials
 pub mod Ran
 pub mod Promises
+pub mod Alterations
 pub mod Theorems

@@ -7,10 +7,12 @@ use Rattle.dc_cli.specs.Pieces.{numbered}
 use Rattle.dc_cli.specs.KeyFaultText.{key_fault_text}
 use Rattle.dc_cli.specs.ManifestFaultText.{manifest_fault_text}
 use Rattle.dc_cli.specs.NetFaultTexts.{stream_fault_text, script_fault_text, net_fault_text}
+use Rattle.dc_cli.specs.RefusalTexts.{list_fault_text, command_fault_text}
 use Rattle.dc_cli.specs.declared.outcome.FileFault.{FileFault}
 use Rattle.dc_cli.specs.declared.outcome.FileFault.TheVariants.{Transcript, Keys, Manifest, Stream, Script}
+use Rattle.dc_cli.specs.declared.outcome.FileFault.TheVariants as files
 use Rattle.dc_cli.specs.declared.outcome.Outcome.{Outcome}
-use Rattle.dc_cli.specs.declared.outcome.Outcome.TheVariants.{Done, Usage, Missing, TooLong, Malformed, Disagree, ShelfFault, SinkFault, NoMemory}
+use Rattle.dc_cli.specs.declared.outcome.Outcome.TheVariants.{Done, Usage, Missing, TooLong, Malformed, Disagree, Refused, ShelfFault, SinkFault, NoMemory}
 
 -- a fault of a transcript: its name, then its fields
 abbrev pub transcript_fault_text : TranscriptFault → List ℕ
@@ -28,6 +30,7 @@ file_fault_text (Keys fault) = key_fault_text fault
 file_fault_text (Manifest fault) = manifest_fault_text fault
 file_fault_text (Stream fault) = stream_fault_text fault
 file_fault_text (Script fault) = script_fault_text fault
+file_fault_text (files.List fault) = list_fault_text fault
 
 -- the text of each outcome
 abbrev pub outcome_text : Outcome → List ℕ
@@ -37,6 +40,7 @@ outcome_text (Missing name) = name ++ codes ": missing"
 outcome_text (TooLong name) = name ++ codes ": too long"
 outcome_text (Malformed name fault) = name ++ codes ": malformed: " ++ file_fault_text fault
 outcome_text (Disagree fault) = codes "files disagree: " ++ net_fault_text fault
+outcome_text (Refused fault) = codes "refused: " ++ command_fault_text fault
 outcome_text ShelfFault = codes "file fault"
 outcome_text SinkFault = codes "output fault"
 outcome_text NoMemory = codes "no memory"

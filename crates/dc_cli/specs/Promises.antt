@@ -1,7 +1,7 @@
 -- The promises of a call in its reader's words; each follows from what the call did by its outcome.
 use Rattle.std.specs.Prelude.{String, ℕ, ◌≡◌, ◌≤◌, ◌⊎◌, List, [], ◌∷◌, ◌++◌, length, All, false, Option, Some, None, Ok, Err}
 use Rattle.dc_spec.specs.Outside.{ShelfState, SinkState, absent, held, Rose, Tells, grown, IsFront}
-use Rattle.dc_spec.specs.Limits.{transcript_limit, manifest_limit, key_file_limit}
+use Rattle.dc_spec.specs.Limits.{transcript_limit, manifest_limit, key_file_limit, permutation_limit, wanted_words_limit}
 use Rattle.dc_spec.specs.Pads.{Keys}
 use Rattle.dc_spec.specs.Recorded.{Recorded, IsRecorded, transcript_bytes, superposed}
 use Rattle.dc_spec.specs.Text.{words_text}
@@ -26,7 +26,7 @@ use Rattle.dc_net.specs.TrialNets.{trial_net}
 use Rattle.dc_net_rules.specs.Runs.{run_of}
 use Rattle.dc_cli.specs.Trials.{summary_of, CountsAll}
 use Rattle.dc_cli.specs.Forms.{texts, is_form, longest_begun}
-use Rattle.dc_cli.specs.Commands.{Task, sum, keygen, keygen_seeds, migrate, replay, logs, trial, Spells}
+use Rattle.dc_cli.specs.Commands.{Task, sum, keygen, keygen_seeds, migrate, replay, logs, twin, steer, trial, Spells}
 use Rattle.dc_cli.specs.Summing.{Refused}
 use Rattle.dc_cli.specs.Making.{Making}
 use Rattle.dc_cli.specs.Keygen.{keygen_making}
@@ -70,6 +70,19 @@ pub record NeedsOfNet (net : List ℕ) (shelf : ShelfState) (name : List ℕ) (l
   pub told : All (λ file. Tells (shelf.holds file.name) file.bytes) files
   pub next : net_step net (bytes_of files) ≡ needs name limit
 
+-- the names that are asked for after a step: that of the file that it needs, or these where it makes something
+abbrev pub names_after : {A : Type 0} → List (List ℕ) → Step A → List (List ℕ)
+names_after more (needs name limit) = name ∷ []
+names_after more (makes made left) = more
+names_after more _ = []
+
+-- the names of the files of a net, as above, and where these make a net, those of the list and of the key file of an alteration
+pub record NamesOfAlteration (net list target : List ℕ) (shelf : ShelfState) (names : List (List ℕ)) : Type 0 where
+  pub files : List File
+  pub needed : AreNeeded (net_step net) files
+  pub told : All (λ file. Tells (shelf.holds file.name) file.bytes) files
+  pub names_are : names ≡ names_of files ++ names_after (list ∷ target ∷ []) (net_step net (bytes_of files))
+
 -- the files that a command asks for, in order; by the shelf's state, since a file may name others
 abbrev pub AsksFor : ShelfState → Task → List (List ℕ) → Type 0
 AsksFor shelf (sum file) files = files ≡ file ∷ []
@@ -78,6 +91,8 @@ AsksFor shelf (keygen_seeds seed net target) files = files ≡ net ∷ target �
 AsksFor shelf (migrate keys target) files = files ≡ keys ∷ target ∷ []
 AsksFor shelf (replay net workers) files = NamesOfNet net shelf files
 AsksFor shelf (logs net) files = NamesOfNet net shelf files
+AsksFor shelf (twin net perm target) files = NamesOfAlteration net perm target shelf files
+AsksFor shelf (steer net u v wanted target) files = NamesOfAlteration net wanted target shelf files
 AsksFor shelf (trial seed stations count workers) files = files ≡ []
 
 -- words that are not a form are refused, and no others are
@@ -91,6 +106,11 @@ LeavesOthers target Done before after = OthersStay target before after
 LeavesOthers target ShelfFault before after = OthersStay target before after
 LeavesOthers target other before after = after.holds ≡ before.holds
 
+-- the same of a command that prints after it wrote
+abbrev pub LeavesAltered : List ℕ → Outcome → ShelfState → ShelfState → Type 0
+LeavesAltered target SinkFault before after = OthersStay target before after
+LeavesAltered target other before after = LeavesOthers target other before after
+
 -- the files that a command leaves as they were, by its outcome: all, but for one that it writes
 abbrev pub Leaves : Task → Outcome → ShelfState → ShelfState → Type 0
 Leaves (sum file) outcome before after = after.holds ≡ before.holds
@@ -99,6 +119,8 @@ Leaves (keygen_seeds seed net target) outcome before after = LeavesOthers target
 Leaves (migrate keys target) outcome before after = LeavesOthers target outcome before after
 Leaves (replay net workers) outcome before after = after.holds ≡ before.holds
 Leaves (logs net) outcome before after = after.holds ≡ before.holds
+Leaves (twin net perm target) outcome before after = LeavesAltered target outcome before after
+Leaves (steer net u v wanted target) outcome before after = LeavesAltered target outcome before after
 Leaves (trial seed stations count workers) outcome before after = after.holds ≡ before.holds
 
 -- each file stays, unless the command of the words writes it
@@ -137,6 +159,8 @@ HasLimit shelf (keygen_seeds seed net target) name limit = (name ≡ net) × (li
 HasLimit shelf (migrate keys target) name limit = (name ≡ keys) × (limit ≡ key_file_limit)
 HasLimit shelf (replay net workers) name limit = NeedsOfNet net shelf name limit
 HasLimit shelf (logs net) name limit = NeedsOfNet net shelf name limit
+HasLimit shelf (twin net perm target) name limit = NeedsOfNet net shelf name limit ⊎ ((name ≡ perm) × (limit ≡ permutation_limit))
+HasLimit shelf (steer net u v wanted target) name limit = NeedsOfNet net shelf name limit ⊎ ((name ≡ wanted) × (limit ≡ wanted_words_limit))
 HasLimit shelf (trial seed stations count workers) name limit = ⊥
 
 -- the outcome reports a name
@@ -200,6 +224,8 @@ making_of (keygen_seeds seed net target) = Some (seeds_making seed net target)
 making_of (migrate keys target) = Some (migrate_making keys target)
 making_of (replay net workers) = None
 making_of (logs net) = None
+making_of (twin net perm target) = None
+making_of (steer net u v wanted target) = None
 making_of (trial seed stations count workers) = None
 
 -- each of these makes its file

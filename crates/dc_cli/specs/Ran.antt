@@ -5,7 +5,7 @@ use Rattle.dc_edge.specs.Sink.{Puts}
 use Rattle.dc_edge.specs.declared.fault.Failed.{Failed}
 use Rattle.dc_cli.specs.Lines.{fault_line}
 use Rattle.dc_cli.specs.Forms.{is_form, longest_begun}
-use Rattle.dc_cli.specs.Commands.{Task, sum, keygen, keygen_seeds, migrate, replay, logs, trial, Spells}
+use Rattle.dc_cli.specs.Commands.{Task, sum, keygen, keygen_seeds, migrate, replay, logs, twin, steer, trial, Spells}
 use Rattle.dc_cli.specs.Summing.{SumRan}
 use Rattle.dc_cli.specs.Making.{MakesOf}
 use Rattle.dc_cli.specs.Keygen.{keygen_making}
@@ -14,6 +14,9 @@ use Rattle.dc_cli.specs.Migrating.{migrate_making}
 use Rattle.dc_run_texts.specs.View.{view_text}
 use Rattle.dc_run_texts.specs.Logs.{logs_text}
 use Rattle.dc_cli.specs.Replaying.{NetRan}
+use Rattle.dc_cli.specs.Altering.{AltersOf}
+use Rattle.dc_cli.specs.Twinning.{twinning}
+use Rattle.dc_cli.specs.Steering.{steering}
 use Rattle.dc_cli.specs.Trials.{TrialRan}
 use Rattle.dc_cli.specs.declared.outcome.Outcome.{Outcome}
 use Rattle.dc_cli.specs.declared.outcome.Outcome.TheVariants.{Usage}
@@ -33,6 +36,8 @@ CommandRan (keygen_seeds seed net target) shelf shelf' out out' outcome = (out' 
 CommandRan (migrate keys target) shelf shelf' out out' outcome = (out' ≡ out) × MakesOf (migrate_making keys target) shelf shelf' outcome
 CommandRan (replay net workers) shelf shelf' out out' outcome = NetRan view_text net shelf shelf' out out' outcome
 CommandRan (logs net) shelf shelf' out out' outcome = NetRan logs_text net shelf shelf' out out' outcome
+CommandRan (twin net perm target) shelf shelf' out out' outcome = AltersOf net (twinning perm target) shelf shelf' out out' outcome
+CommandRan (steer net u v wanted target) shelf shelf' out out' outcome = AltersOf net (steering u v wanted target) shelf shelf' out out' outcome
 CommandRan (trial seed stations count workers) shelf shelf' out out' outcome = (shelf' ≡ shelf) × TrialRan seed stations count out out' outcome
 
 -- the command that the words spell, and what it did

@@ -5,7 +5,7 @@ use Rattle.dc_edge.specs.Shelf.{Reads}
 use Rattle.dc_edge.specs.declared.fault.ShelfFault.TheVariants as faults
 use Rattle.dc_cli.specs.declared.outcome.FileFault.{FileFault}
 use Rattle.dc_cli.specs.declared.outcome.Outcome.{Outcome}
-use Rattle.dc_cli.specs.declared.outcome.Outcome.TheVariants.{Done, Usage, Missing, TooLong, Malformed, Disagree, ShelfFault, SinkFault, NoMemory}
+use Rattle.dc_cli.specs.declared.outcome.Outcome.TheVariants.{Done, Usage, Missing, TooLong, Malformed, Disagree, Refused, ShelfFault, SinkFault, NoMemory}
 
 -- memory ran out before the name was asked for, and nothing changed
 abbrev pub Unasked : ShelfState → ShelfState → Type 0
@@ -21,6 +21,7 @@ ReadsFile file limit before after (Err NoMemory) = Unasked before after
 ReadsFile file limit before after (Err Done) = ⊥
 ReadsFile file limit before after (Err (Usage place)) = ⊥
 ReadsFile file limit before after (Err (Disagree fault)) = ⊥
+ReadsFile file limit before after (Err (Refused fault)) = ⊥
 ReadsFile file limit before after (Err (Malformed name fault)) = ⊥
 ReadsFile file limit before after (Err SinkFault) = ⊥
 

@@ -1,5 +1,5 @@
 -- What the theorems on nets say of the net whose view or logs were printed.
-use Rattle.std.specs.Prelude.{ℕ, ◌+◌, ◌-◌, ◌<◌, ◌≤◌, ◌≡◌, true, List, [], ◌∷◌, ◌++◌, length, map, drop, take, sum_by, slice_index, slice_index_or, None}
+use Rattle.std.specs.Prelude.{ℕ, ◌+◌, ◌-◌, ◌<◌, ◌≤◌, ◌≡◌, true, List, [], ◌∷◌, ◌++◌, length, map, drop, take, sum_by, slice_index, slice_index_or, None, Ok}
 use Rattle.std.specs.List.{range_with_len, AllByRecursion}
 use Rattle.dc_spec.specs.Words.{AreWords}
 use Rattle.dc_spec.specs.Pads.{Pair}
@@ -17,11 +17,20 @@ use Rattle.dc_message_rules.specs.SentEpochs.{Delivers, epoch_length}
 use Rattle.dc_message_rules.specs.Undisturbed.{first_values}
 use Rattle.dc_run_texts.specs.View.{view_text}
 use Rattle.dc_run_texts.specs.Logs.{logs_text}
-use Rattle.dc_twin_rules.specs.Twins.{Admits, inverse, twin}
-use Rattle.dc_steering_rules.specs.Steerings.{with_pair}
-use Rattle.dc_steering_rules.specs.Counting.{MaySteer, IsKeyListFor, OthersSayTheSame, steered_between, own_pair, heard_symbols}
+use Rattle.dc_formats.specs.KeyFile.{keys_bytes}
+use Rattle.dc_graph.specs.Images.{perm_from_bytes}
+use Rattle.dc_steer.specs.Wanted.{wanted_from_bytes}
+use Rattle.dc_twin_rules.specs.Twins.{Admits, inverse, shifts, twin}
+use Rattle.dc_twin_rules.specs.Shifts.{shifts_text}
+use Rattle.dc_steering_rules.specs.Steerings.{with_pair, steering_of, steered_net}
+use Rattle.dc_steering_rules.specs.SteeringText.{steering_text}
+use Rattle.dc_steering_rules.specs.Counting.{MaySteer, IsKeyListFor, OthersSayTheSame, IsSteeredTo, steered_between, own_pair, heard_symbols}
 use Rattle.dc_cli.specs.Replaying.{RunPrinted}
-use Rattle.dc_cli.specs.Commands.{replay, logs, Spells}
+use Rattle.dc_cli.specs.Altering.{Alteration}
+use Rattle.dc_cli.specs.Alterations.{WroteKeys}
+use Rattle.dc_cli.specs.Twinning.{twinning}
+use Rattle.dc_cli.specs.Steering.{steering}
+use Rattle.dc_cli.specs.Commands.{replay, logs, twin as twin_task, steer as steer_task, Spells}
 use Rattle.dc_cli.specs.Promises.{Call}
 use Rattle.dc_cli.specs.declared.outcome.Outcome.TheVariants.{Done}
 
@@ -106,15 +115,57 @@ pub record PrintedAll (name : List ℕ) (shelf shelf' : ShelfState) (out out' : 
   pub printed : RunPrinted logs_text name shelf shelf' out out'
   pub delivers : printed.net.coalition ≡ [] → DeliversAll printed.net
 
--- where `replay` is done, the view that was printed does not show which of its joined honest stations has which stream
+-- where `replay` is done and the honest stations of the net receive alike, the view that was printed is also that of its twins
 abbrev pub IsUntraceable : Call → Type 0
 IsUntraceable c = c.outcome ≡ Done → (net : List ℕ) (workers : ℕ) → Spells c.words (replay net workers) → PrintedUntraceably net c.shelf c.shelf' c.out c.out'
 
--- where `replay` is done, what honest neighbours of its net said after they received different words comes from as many of their keys
--- as anything else
+-- where `replay` is done, and two honest neighbours of its net received different words, each list of the later sums comes from as many
+-- of their keys as any other
 abbrev pub IsSteerable : Call → Type 0
 IsSteerable c = c.outcome ≡ Done → (net : List ℕ) (workers : ℕ) → Spells c.words (replay net workers) → PrintedSteerably net c.shelf c.shelf' c.out c.out'
 
 -- where `logs` is done, and the net has no coalition, the logs hold each message as often as it was sent
 abbrev pub DeliversMessages : Call → Type 0
 DeliversMessages c = c.outcome ≡ Done → (net : List ℕ) → Spells c.words (logs net) → PrintedAll net c.shelf c.shelf' c.out c.out'
+
+-- The twin of a net was written: the net of the manifest admits the images of the list, and its honest stations receive alike.
+--   keys, text: the target holds the key file of the twin, and its shifts were printed.
+--   has: the twin has the view that `replay` prints of the net, and the same rounds; its twin by the inverse permutation is the net.
+pub record TwinWritten (source : List ℕ) (m : Alteration) (shelf shelf' : ShelfState) (out out' : SinkState) : Type 0 where
+  pub wrote : WroteKeys source m shelf shelf'
+  pub printed : out'.written ≡ grown out.written wrote.text
+  pub images : List ℕ
+  pub read : perm_from_bytes wrote.made.bytes ≡ Ok images
+  pub admits : Admits wrote.made.net images
+  pub alike : IsAlike wrote.made.net
+  pub keys : wrote.keys ≡ keys_bytes (twin wrote.made.net images).keys
+  pub text : wrote.text ≡ shifts_text (shifts wrote.made.net images)
+  pub has : HasTwin (view_text wrote.made.net (run_of wrote.made.net)) wrote.made.net images
+
+-- where `twin` is done, it wrote the twin
+abbrev pub WritesTwin : Call → Type 0
+WritesTwin c = c.outcome ≡ Done → (net perm target : List ℕ) → Spells c.words (twin_task net perm target) → TwinWritten net (twinning perm target) c.shelf c.shelf' c.out c.out'
+
+-- A steered net was written: u < v are honest neighbours of the net of the manifest that first received different words in a round, the
+-- script fixes all later rounds, and there is a wanted word for each of them.
+--   keys, text: the target holds the key file of the steered net, and the changes were printed.
+--   steered: in the steered net all words up to that round are the same, the later sums are the wanted words, and each station but v
+--     says the same words.
+--   steerable: each list of later sums comes from as many pads of the pair as any other.
+pub record SteeringWritten (source : List ℕ) (u v : ℕ) (m : Alteration) (shelf shelf' : ShelfState) (out out' : SinkState) : Type 0 where
+  pub wrote : WroteKeys source m shelf shelf'
+  pub printed : out'.written ≡ grown out.written wrote.text
+  pub wanted : List (List ℕ)
+  pub read : wanted_from_bytes wrote.made.bytes ≡ Ok wanted
+  pub round : ℕ
+  pub may : MaySteer wrote.made.net u v round
+  pub count : length wanted ≡ wrote.made.net.words - (round + 1)
+  pub keys : wrote.keys ≡ keys_bytes (steered_net wrote.made.net u v wanted).keys
+  pub text : wrote.text ≡ steering_text (steering_of wrote.made.net u v wanted)
+  pub steered : IsSteeredTo wrote.made.net v round wanted (steered_net wrote.made.net u v wanted)
+  pub steerable : AreSteerable wrote.made.net u v round
+
+-- where `steer` is done, it wrote the steered net
+abbrev pub WritesSteering : Call → Type 0
+WritesSteering c = c.outcome ≡ Done → (net : List ℕ) (u v : ℕ) (wanted target : List ℕ) → Spells c.words (steer_task net u v wanted target)
+    → SteeringWritten net u v (steering u v wanted target) c.shelf c.shelf' c.out c.out'

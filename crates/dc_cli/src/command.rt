@@ -3,7 +3,7 @@
 ghost use Rattle.std.specs.Prelude.{◌≡◌, ◌≤◌, ◌∷◌};
 ghost use Rattle.dc_spec.specs.Limits.{most_stations};
 ghost use Rattle.dc_cli.specs.Forms.{texts, is_name as name_test, seed_in, number_between, most_words_of};
-ghost use Rattle.dc_cli.specs.Commands.{ReadsAs, ReadsAsFile, ReadsAsKeygen, ReadsAsNames, ReadsAsFlag, ReadsAsMigrate, ReadsAsReplay, ReadsAsLogs, ReadsAsTrial, ReadsAsStations, ReadsAsWords, ReadsAsWorkers, ReadsAsCount};
+ghost use Rattle.dc_cli.specs.Commands.{ReadsAs, ReadsAsFile, ReadsAsKeygen, ReadsAsNames, ReadsAsFlag, ReadsAsMigrate, ReadsAsReplay, ReadsAsLogs, ReadsAsTwin, ReadsAsSteer, ReadsAsEnds, ReadsAsSecond, ReadsAsWanted, ReadsAsTrial, ReadsAsStations, ReadsAsWords, ReadsAsWorkers, ReadsAsCount};
 
 use dc_field::read_decimal;
 use dc_text::{Digits, decode_payload, payload_length};
@@ -41,6 +41,21 @@ pub enum Command<'a> {
     Logs {
         net: &'a str,
     },
+    /// Writes the key file of the twin of a net by a list of images, and prints the shifts.
+    Twin {
+        net: &'a str,
+        perm: &'a str,
+        target: &'a str,
+    },
+    /// Writes the key file in which the pads of the pair of two stations, each 0 to 255, are steered towards wanted words, and
+    /// prints the changes.
+    Steer {
+        net: &'a str,
+        u: u16,
+        v: u16,
+        wanted: &'a str,
+        target: &'a str,
+    },
     /// Prints the summary of the run of the net of a seed and of 1 to 256 stations and 1 to 4096 words, computed by 1 to 64
     /// workers.
     Trial {
@@ -70,6 +85,8 @@ fn command_with<'a>(verb: &str, rest: &'a [String]) -> Result<Command<'a>, u32>
         "migrate" => migrate_of(rest),
         "replay" => replay_of(rest),
         "logs" => logs_of(rest),
+        "twin" => twin_of(rest),
+        "steer" => steer_of(rest),
         "trial" => trial_of(rest),
         _ => Err(0),
     }
@@ -168,6 +185,80 @@ fn logs_of(rest: &[String]) -> Result<Command<'_>, u32>
     }
 }
 
+fn twin_of(names: &[String]) -> Result<Command<'_>, u32>
+    ensures { ReadsAsTwin (texts names.now) result }
+{
+    match names {
+        [net, perm, target]
+            if is_name(net.as_str()) && is_name(perm.as_str()) && is_name(target.as_str()) => {
+            Ok(Command::Twin {
+                net: net.as_str(),
+                perm: perm.as_str(),
+                target: target.as_str(),
+            })
+        }
+        [net, perm, target, _, ..]
+            if is_name(net.as_str()) && is_name(perm.as_str()) && is_name(target.as_str()) => {
+            Err(4)
+        }
+        [net, perm, ..] if is_name(net.as_str()) && is_name(perm.as_str()) => Err(3),
+        [net, ..] if is_name(net.as_str()) => Err(2),
+        _ => Err(1),
+    }
+}
+
+fn steer_of(rest: &[String]) -> Result<Command<'_>, u32>
+    ensures { ReadsAsSteer (texts rest.now) result }
+{
+    match rest {
+        [net, ends @ ..] if is_name(net.as_str()) => steer_with(net.as_str(), ends),
+        _ => Err(1),
+    }
+}
+
+fn steer_with<'a>(net: &'a str, rest: &'a [String]) -> Result<Command<'a>, u32>
+    ensures { ReadsAsEnds net.now (texts rest.now) result }
+{
+    match rest {
+        [digits, more @ ..] => match station_of(digits.as_str()) {
+            Some(u) => steer_from(net, u, more),
+            None => Err(2),
+        },
+        _ => Err(2),
+    }
+}
+
+fn steer_from<'a>(net: &'a str, u: u16, rest: &'a [String]) -> Result<Command<'a>, u32>
+    ensures { ReadsAsSecond net.now u (texts rest.now) result }
+{
+    match rest {
+        [digits, names @ ..] => match station_of(digits.as_str()) {
+            Some(v) => steer_between(net, u, v, names),
+            None => Err(3),
+        },
+        _ => Err(3),
+    }
+}
+
+fn steer_between<'a>(net: &'a str, u: u16, v: u16, names: &'a [String]) -> Result<Command<'a>, u32>
+    ensures { ReadsAsWanted net.now u v (texts names.now) result }
+{
+    match names {
+        [wanted, target] if is_name(wanted.as_str()) && is_name(target.as_str()) => {
+            Ok(Command::Steer {
+                net,
+                u,
+                v,
+                wanted: wanted.as_str(),
+                target: target.as_str(),
+            })
+        }
+        [wanted, target, _, ..] if is_name(wanted.as_str()) && is_name(target.as_str()) => Err(6),
+        [wanted, ..] if is_name(wanted.as_str()) => Err(5),
+        _ => Err(4),
+    }
+}
+
 fn trial_of(rest: &[String]) -> Result<Command<'_>, u32>
     ensures { ReadsAsTrial (texts rest.now) result }
 {
@@ -256,6 +347,16 @@ fn number_of(word: &str, low: u32, high: u32) -> Option<u32>
     match read_decimal(word.as_bytes()) {
         Some(number) if low <= number && number <= high => Some(number),
         _ => None,
+    }
+}
+
+/// The station, 0 to 255, that a word spells.
+fn station_of(word: &str) -> Option<u16>
+    ensures { result ≡ number_between 0 255 word.now }
+{
+    match number_of(word, 0, 255) {
+        Some(number) => Some(number as u16),
+        None => None,
     }
 }
 

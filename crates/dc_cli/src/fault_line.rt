@@ -9,6 +9,7 @@ use crate::manifest_fault::put_manifest_fault;
 use crate::net_fault::{put_net_fault, put_script_fault, put_stream_fault};
 use crate::outcome::{FileFault, Outcome};
 use crate::pieces::{put_named, put_number};
+use crate::refusal_line::{put_command_fault, put_list_fault};
 use dc_edge::{Failed, Sink};
 use dc_superpose::TranscriptFault;
 
@@ -46,6 +47,10 @@ fn put_outcome_text<E: Sink>(o: &Outcome, err: &mut E) -> Result<(), Failed>
             err.put(b"files disagree: ")?;
             put_net_fault(*fault, err)
         }
+        Outcome::Refused { fault } => {
+            err.put(b"refused: ")?;
+            put_command_fault(*fault, err)
+        }
         Outcome::ShelfFault => err.put(b"file fault"),
         Outcome::SinkFault => err.put(b"output fault"),
         Outcome::NoMemory => err.put(b"no memory"),
@@ -61,6 +66,7 @@ fn put_file_fault<E: Sink>(fault: &FileFault, err: &mut E) -> Result<(), Failed>
         FileFault::Manifest(fault) => put_manifest_fault(fault, err),
         FileFault::Stream(fault) => put_stream_fault(*fault, err),
         FileFault::Script(fault) => put_script_fault(*fault, err),
+        FileFault::List(fault) => put_list_fault(*fault, err),
     }
 }
 

@@ -12,12 +12,15 @@ mod net_fault;
 mod outcome;
 mod pieces;
 mod reading;
+mod refusal_line;
 mod replaying;
+mod steering;
 mod summing;
 mod top;
 mod trial;
+mod twinning;
 mod writing;
 
 pub use fault_line::put_fault;
-pub use outcome::{FileFault, Outcome, status};
+pub use outcome::{CommandFault, FileFault, Outcome, status};
 pub use top::dcnet;

@@ -1,9 +1,11 @@
 //! The texts of the faults of streams and scripts, and of nets whose parts do not agree.
 
+ghost use Rattle.std.specs.Prelude.{◌++◌, codes};
 ghost use Rattle.dc_edge.specs.Sink.{Puts};
+ghost use Rattle.dc_cli.specs.Pieces.{numbered};
 ghost use Rattle.dc_cli.specs.NetFaultTexts.{stream_kind_text, stream_fault_text, script_kind_text, script_fault_text, net_fault_text};
 
-use crate::pieces::{put_number, put_two_numbers};
+use crate::pieces::{put_number, put_small, put_two_numbers, put_two_small};
 use dc_edge::{Failed, Sink};
 use dc_net::NetFault;
 use dc_script::{ScriptFault, ScriptKind};
@@ -79,73 +81,40 @@ pub fn put_net_fault<E: Sink>(fault: NetFault, err: &mut E) -> Result<(), Failed
 {
     match fault {
         NetFault::KeyStations { told, net } => {
-            put_two_numbers(
-                err,
-                b"key-stations told=",
-                u64::from(told),
-                b" net=",
-                u64::from(net),
-            )
+            put_two_small(err, b"key-stations told=", told, b" net=", net)
         }
         NetFault::KeyWords { told, net } => {
-            put_two_numbers(
-                err,
-                b"key-words told=",
-                u64::from(told),
-                b" net=",
-                u64::from(net),
-            )
+            put_two_small(err, b"key-words told=", told, b" net=", net)
         }
-        NetFault::KeyMissing { u, v } => {
-            put_two_numbers(err, b"key-missing u=", u64::from(u), b" v=", u64::from(v))
-        }
-        NetFault::KeyStray { u, v } => {
-            put_two_numbers(err, b"key-stray u=", u64::from(u), b" v=", u64::from(v))
-        }
-        NetFault::StreamMissing { station } => {
-            put_number(err, b"stream-missing station=", u64::from(station))
-        }
-        NetFault::StreamStray { station } => {
-            put_number(err, b"stream-stray station=", u64::from(station))
-        }
-        NetFault::ScriptRounds { told, net } => {
-            put_two_numbers(
-                err,
-                b"script-rounds told=",
-                u64::from(told),
-                b" net=",
-                u64::from(net),
-            )
-        }
+        NetFault::KeyMissing { u, v } => put_two_small(err, b"key-missing u=", u, b" v=", v),
+        NetFault::KeyStray { u, v } => put_two_small(err, b"key-stray u=", u, b" v=", v),
+        NetFault::StreamMissing { station } => put_small(err, b"stream-missing station=", station),
+        NetFault::StreamStray { station } => put_small(err, b"stream-stray station=", station),
+        NetFault::ScriptRounds { told, net } => put_rounds(told, net, err),
         NetFault::ScriptStation { round, station } => {
-            put_two_numbers(
-                err,
-                b"script-station round=",
-                u64::from(round),
-                b" station=",
-                u64::from(station),
-            )
+            put_two_small(err, b"script-station round=", round, b" station=", station)
         }
-        NetFault::ScriptDelivery { round } => {
-            put_number(err, b"script-delivery round=", u64::from(round))
-        }
+        NetFault::ScriptDelivery { round } => put_small(err, b"script-delivery round=", round),
         NetFault::ScriptRule { round, station } => {
-            put_two_numbers(
-                err,
-                b"script-rule round=",
-                u64::from(round),
-                b" station=",
-                u64::from(station),
-            )
+            put_two_small(err, b"script-rule round=", round, b" station=", station)
         }
         NetFault::NoStation { station, stations } => {
-            put_two_numbers(
+            put_two_small(
                 err,
                 b"no-station station=",
-                u64::from(station),
+                station,
                 b" stations=",
-                u64::from(stations),
+                stations,
             )
         }
     }
+}
+
+/// Puts that a script has another number of rounds than the session has words.
+fn put_rounds<E: Sink>(told: u32, net: u16, err: &mut E) -> Result<(), Failed>
+    ensures { Puts (numbered (codes "script-rounds told=") told ++ numbered (codes " net=") net)
+        (E.state err.old) (E.state err.new) result }
+{
+    put_number(err, b"script-rounds told=", u64::from(told))?;
+    put_small(err, b" net=", net)
 }

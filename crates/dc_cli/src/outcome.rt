@@ -3,13 +3,15 @@
 ghost use Rattle.std.specs.Prelude.{◌≡◌};
 ghost use Rattle.dc_cli.specs.Outcomes.{status_of};
 
-use dc_field::Text;
+use dc_field::{ListFault, Text};
 use dc_keyfile::KeyFault;
 use dc_manifest::ManifestFault;
 use dc_net::NetFault;
 use dc_script::ScriptFault;
+use dc_steer::SteerFault;
 use dc_stream::StreamFault;
 use dc_superpose::TranscriptFault;
+use dc_twin::TwinFault;
 
 /// Why the bytes of a file do not have the format that the command reads.
 #[derive(Debug, Drop)]
@@ -24,6 +26,17 @@ pub enum FileFault {
     Stream(StreamFault),
     /// They are no script.
     Script(ScriptFault),
+    /// They are no list of images, or of wanted words.
+    List(ListFault),
+}
+
+/// Why a command does not do with a net what the words ask for.
+#[derive(Clone, Copy, Debug)]
+pub enum CommandFault {
+    /// The net has no twin by the images.
+    Twin(TwinFault),
+    /// The pair cannot be steered towards the wanted words.
+    Steer(SteerFault),
 }
 
 /// How a call ended. Each outcome but `Done` puts one line on the sink of faults.
@@ -41,6 +54,8 @@ pub enum Outcome {
     Malformed { name: Text, fault: FileFault },
     /// The files of a net do not agree. Status 6.
     Disagree { fault: NetFault },
+    /// The command `twin` or `steer` refuses. Status 7.
+    Refused { fault: CommandFault },
     /// The shelf failed. Status 8.
     ShelfFault,
     /// The sink of output failed. Status 9.
@@ -60,6 +75,7 @@ pub fn status(o: &Outcome) -> u8
         Outcome::TooLong { .. } => 4,
         Outcome::Malformed { .. } => 5,
         Outcome::Disagree { .. } => 6,
+        Outcome::Refused { .. } => 7,
         Outcome::ShelfFault => 8,
         Outcome::SinkFault => 9,
         Outcome::NoMemory => 12,

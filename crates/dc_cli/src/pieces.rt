@@ -48,6 +48,27 @@ pub fn put_two_numbers<K: Sink>(
     put_number(out, second, n)
 }
 
+/// Puts a text and a number of 16 bits after it, in decimal.
+pub fn put_small<K: Sink>(out: &mut K, text: &[u8], n: u16) -> Result<(), Failed>
+    ensures { Puts (numbered text.now n) (K.state out.old) (K.state out.new) result }
+{
+    put_number(out, text, u64::from(n))
+}
+
+/// Puts two texts, each with a number of 16 bits after it.
+pub fn put_two_small<K: Sink>(
+    out: &mut K,
+    first: &[u8],
+    m: u16,
+    second: &[u8],
+    n: u16,
+) -> Result<(), Failed>
+    ensures { Puts (numbered first.now m ++ numbered second.now n)
+        (K.state out.old) (K.state out.new) result }
+{
+    put_two_numbers(out, first, u64::from(m), second, u64::from(n))
+}
+
 /// Puts a name and a text after it.
 pub fn put_named<K: Sink>(out: &mut K, name: &Text, text: &[u8]) -> Result<(), Failed>
     ensures { Puts (name.now ++ text.now) (K.state out.old) (K.state out.new) result }

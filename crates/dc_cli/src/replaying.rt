@@ -86,7 +86,7 @@ fn put_run<K: Sink>(
 }
 
 /// The outcome of a net that was not read.
-fn outcome_of(refused: NotRead) -> Outcome
+pub fn outcome_of(refused: NotRead) -> Outcome
     ensures { result ≡ outcome_of refused }
 {
     match refused {

@@ -3,7 +3,8 @@
 ghost use Rattle.dc_cli.specs.Forms.{texts};
 ghost use Rattle.dc_cli.specs.Commands.{IsRunnable, task_of};
 ghost use Rattle.dc_cli.specs.Promises.{call, RefusesOtherWords, PrintsSums, Completes, AsksInOrder, TellsTheLast, KeepsFiles, PrintsOnlyWhenDone, MissesTheAbsent, RefusesTheLong, RefusesTheMalformed, TellsTheFault, HasCauses, WritesKeys, WritesSeeds, WritesPads, MakesFiles, PrintsView, PrintsLogs, RunsNets, RunsLogs, PrintsSummary, RunsTrials};
-ghost use Rattle.dc_cli.specs.Theorems.{IsUntraceable, IsSteerable, DeliversMessages};
+ghost use Rattle.dc_cli.specs.Alterations.{AltersNets};
+ghost use Rattle.dc_cli.specs.Theorems.{IsUntraceable, IsSteerable, DeliversMessages, WritesTwin, WritesSteering};
 ghost use Rattle.dc_cli.specs.Ran.{Ran, CommandRan, PutsLine};
 
 use crate::command::{Command, command_of};
@@ -13,8 +14,10 @@ use crate::keygen_seeds::run_keygen_seeds;
 use crate::migrate::run_migrate;
 use crate::outcome::Outcome;
 use crate::replaying::{Printed, run_net};
+use crate::steering::run_steer;
 use crate::summing::run_sum;
 use crate::trial::run_trial;
+use crate::twinning::run_twin;
 use dc_edge::{Gate, Shelf, Sink};
 use std::alloc::Global;
 use std::thread::Threads;
@@ -73,6 +76,8 @@ pub fn dcnet<R: Threads + Sync, F: Shelf, K: Sink, E: Sink, G: Gate + Sync>(
         (call F.state K.state words.now shelf.old shelf.new out.old out.new result) }
     ensures log_nets { RunsLogs
         (call F.state K.state words.now shelf.old shelf.new out.old out.new result) }
+    ensures alters { AltersNets
+        (call F.state K.state words.now shelf.old shelf.new out.old out.new result) }
     ensures trial { PrintsSummary
         (call F.state K.state words.now shelf.old shelf.new out.old out.new result) }
     ensures trials { RunsTrials
@@ -80,6 +85,10 @@ pub fn dcnet<R: Threads + Sync, F: Shelf, K: Sink, E: Sink, G: Gate + Sync>(
     ensures untraceable { IsUntraceable
         (call F.state K.state words.now shelf.old shelf.new out.old out.new result) }
     ensures steerable { IsSteerable
+        (call F.state K.state words.now shelf.old shelf.new out.old out.new result) }
+    ensures twin { WritesTwin
+        (call F.state K.state words.now shelf.old shelf.new out.old out.new result) }
+    ensures steering { WritesSteering
         (call F.state K.state words.now shelf.old shelf.new out.old out.new result) }
     ensures delivers { DeliversMessages
         (call F.state K.state words.now shelf.old shelf.new out.old out.new result) }
@@ -130,6 +139,16 @@ fn run_command<R: Threads + Sync, F: Shelf, K: Sink, G: Gate + Sync>(
             run_net(rt, alloc, net, workers, Printed::View, shelf, out, gate)
         }
         Command::Logs { net } => run_net(rt, alloc, net, 1, Printed::Logs, shelf, out, gate),
+        Command::Twin { net, perm, target } => {
+            run_twin(rt, alloc, net, perm, target, shelf, out, gate)
+        }
+        Command::Steer {
+            net,
+            u,
+            v,
+            wanted,
+            target,
+        } => { run_steer(rt, alloc, net, u, v, wanted, target, shelf, out, gate) }
         Command::Trial {
             seed,
             stations,

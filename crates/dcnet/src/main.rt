@@ -12,13 +12,21 @@ use std::process::ExitCode;
 use std::{env, io};
 
 #[cfg(test)]
+mod in_memory;
+#[cfg(test)]
 mod key_file_tests;
 #[cfg(test)]
+mod refusal_tests;
+#[cfg(test)]
 mod replay_tests;
+#[cfg(test)]
+mod steer_tests;
 #[cfg(test)]
 mod tests;
 #[cfg(test)]
 mod trial_tests;
+#[cfg(test)]
+mod twin_tests;
 
 fn main(rt: HostRuntime) -> ExitCode {
     let mut err = StdSink::new(rt.stderr());

@@ -19,3 +19,9 @@ returns-in_err-put-in-Disagree g c = rw c.in-Disagree.is (Puts-stops _ _ _ _ _ _
 
 pub returns-in_ok-put-in-Disagree : goal.returns-in_ok-put-in-Disagree
 returns-in_ok-put-in-Disagree g c = rw c.in-Disagree.is (Puts-then _ _ _ _ _ _ _ c.in_ok-put-in-Disagree.ensures c.put_net_fault.ensures)
+
+pub returns-in_err-put-in-Refused : goal.returns-in_err-put-in-Refused
+returns-in_err-put-in-Refused g c = rw c.in-Refused.is (Puts-stops _ _ _ _ _ _ c.in_err-put-in-Refused.ensures (search rules))
+
+pub returns-in_ok-put-in-Refused : goal.returns-in_ok-put-in-Refused
+returns-in_ok-put-in-Refused g c = rw c.in-Refused.is (Puts-then _ _ _ _ _ _ _ c.in_ok-put-in-Refused.ensures c.put_command_fault.ensures)

@@ -1,5 +1,5 @@
-use Rattle.dc_cli.proofs.PromiseLemmas.{RefusesOtherWords-run, PrintsSums-run, Completes-run, AsksInOrder-run, KeepsFiles-run, PrintsOnlyWhenDone-run, MissesTheAbsent-run, RefusesTheLong-run, RefusesTheMalformed-run, TellsTheFault-run, TellsTheLast-run, HasCauses-run, WritesKeys-run, WritesSeeds-run, WritesPads-run, MakesFiles-run, PrintsView-run, PrintsLogs-run, RunsNets-run, RunsLogs-run, PrintsSummary-run, RunsTrials-run}
-use Rattle.dc_cli.proofs.TheoremLemmas.{IsUntraceable-run, IsSteerable-run, DeliversMessages-run}
+use Rattle.dc_cli.proofs.PromiseLemmas.{RefusesOtherWords-run, PrintsSums-run, Completes-run, AsksInOrder-run, KeepsFiles-run, PrintsOnlyWhenDone-run, MissesTheAbsent-run, RefusesTheLong-run, RefusesTheMalformed-run, TellsTheFault-run, TellsTheLast-run, HasCauses-run, WritesKeys-run, WritesSeeds-run, WritesPads-run, MakesFiles-run, PrintsView-run, PrintsLogs-run, RunsNets-run, RunsLogs-run, AltersNets-run, PrintsSummary-run, RunsTrials-run}
+use Rattle.dc_cli.proofs.TheoremLemmas.{IsUntraceable-run, IsSteerable-run, WritesTwin-run, WritesSteering-run, DeliversMessages-run}
 use Rattle.dc_cli.proofs.top.dcnet.Goals as goal
 
 pub returns-clause-words : goal.returns-clause-words
@@ -62,6 +62,9 @@ returns-clause-logs g c = PrintsLogs-run _ c.run-outcome.ensures
 pub returns-clause-log_nets : goal.returns-clause-log_nets
 returns-clause-log_nets g c = RunsLogs-run _ c.run-outcome.ensures
 
+pub returns-clause-alters : goal.returns-clause-alters
+returns-clause-alters g c = AltersNets-run _ c.run-outcome.ensures
+
 pub returns-clause-trial : goal.returns-clause-trial
 returns-clause-trial g c = PrintsSummary-run _ c.run-outcome.ensures
 
@@ -73,6 +76,12 @@ returns-clause-untraceable g c = IsUntraceable-run _ c.run-outcome.ensures
 
 pub returns-clause-steerable : goal.returns-clause-steerable
 returns-clause-steerable g c = IsSteerable-run _ c.run-outcome.ensures
+
+pub returns-clause-twin : goal.returns-clause-twin
+returns-clause-twin g c = WritesTwin-run _ c.run-outcome.ensures
+
+pub returns-clause-steering : goal.returns-clause-steering
+returns-clause-steering g c = WritesSteering-run _ c.run-outcome.ensures
 
 pub returns-clause-delivers : goal.returns-clause-delivers
 returns-clause-delivers g c = DeliversMessages-run _ c.run-outcome.ensures

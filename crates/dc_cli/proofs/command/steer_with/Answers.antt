@@ -1,0 +1,12 @@
+use Rattle.std.proofs.Common.{sym}
+use Rattle.dc_cli.proofs.CommandLemmas.{texts-front, no_first, ReadsAsEnds-second}
+use Rattle.dc_cli.proofs.command.steer_with.Goals as goal
+
+pub returns-in-Some : goal.returns-in-Some
+returns-in-Some c =
+    rw (texts-front c.args.rest.now c.digits-item.result c.in-len1-up.len_at_least)
+    (rw (← c.digits-item.is, ← c.as_str.ensures.value) (ReadsAsEnds-second _ _ _ _ _ (sym c.in-Some.ensures) c.steer_from.ensures))
+
+pub returns-in-None : goal.returns-in-None
+returns-in-None c =
+    no_first c.args.rest.now c.digits-item.result c.args.net.now c.in-len1-up.len_at_least (rw (← c.digits-item.is, ← c.as_str.ensures.value) (sym c.in-None.ensures))

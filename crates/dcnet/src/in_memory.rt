@@ -1,0 +1,145 @@
+use dc_cli::{dcnet, status};
+use dc_edge::{MemoryShelf, MemorySink, OpenGate, Shelf};
+use dc_field::NoMemory;
+use std::process::Abort;
+use std::thread::Threads;
+
+/// A command line, the files that the shelf holds beside `o.bin`, and the numbers of the calls that fail.
+#[derive(Clone, Copy)]
+pub struct Given<'a> {
+    pub words: &'a [&'a str],
+    pub files: &'a [(&'a str, &'a [u8])],
+    pub shelf_fails: &'a [u32],
+    pub out_fails: &'a [u32],
+}
+
+/// How the call is to end, and what `o.bin` is to hold then.
+#[derive(Clone, Copy)]
+pub struct Due<'a> {
+    pub status: u8,
+    pub out: &'a [u8],
+    pub err: &'a [u8],
+    pub written: &'a [u8],
+}
+
+/// What `o.bin` holds before each call.
+pub const FORMER: &[u8] = b"former";
+
+/// Asserts how a call over objects in memory ends.
+pub fn check<R: Threads + Sync + AllocGlobal + Abort>(
+    rt: &R,
+    given: Given<'_>,
+    due: Due<'_>,
+) -> Result<(), NoMemory> {
+    let alloc = rt.alloc();
+    let mut shelf = MemoryShelf::new(alloc, given.shelf_fails)?;
+    for (name, bytes) in given.files {
+        shelf.hold(alloc, name, bytes)?;
+    }
+    shelf.hold(alloc, "o.bin", FORMER)?;
+    let mut out = MemorySink::new(alloc, 10000, given.out_fails)?;
+    let mut err = MemorySink::new(alloc, 1000, &[])?;
+    let mut line = Vec::new(alloc);
+    for word in given.words {
+        line.push(String::from_str(alloc, word)?)?;
+    }
+    let outcome = dcnet(rt, alloc, &line, &mut shelf, &mut out, &mut err, &OpenGate);
+    assert_eq!(rt; status(&outcome), due.status);
+    assert_eq!(rt; out.bytes(), due.out);
+    assert_eq!(rt; err.bytes(), due.err);
+    let written = shelf.read(alloc, "o.bin", 100000);
+    assert_eq!(rt;
+        written.as_ref().map(|bytes| bytes.as_slice()),
+        Ok(due.written)
+    );
+    Ok(())
+}
+
+/// Asserts that a call is done: this is printed, and `o.bin` holds these bytes.
+pub fn done<R: Threads + Sync + AllocGlobal + Abort>(
+    rt: &R,
+    words: &[&str],
+    files: &[(&str, &[u8])],
+    out: &[u8],
+    written: &[u8],
+) -> Result<(), NoMemory> {
+    let given = Given {
+        words,
+        files,
+        shelf_fails: &[],
+        out_fails: &[],
+    };
+    let due = Due {
+        status: 0,
+        out,
+        err: b"",
+        written,
+    };
+    check(rt, given, due)
+}
+
+/// Asserts that a call ends with a status and a fault line, prints nothing and leaves `o.bin`.
+pub fn refuses<R: Threads + Sync + AllocGlobal + Abort>(
+    rt: &R,
+    words: &[&str],
+    files: &[(&str, &[u8])],
+    status: u8,
+    err: &[u8],
+) -> Result<(), NoMemory> {
+    let given = Given {
+        words,
+        files,
+        shelf_fails: &[],
+        out_fails: &[],
+    };
+    let due = Due {
+        status,
+        out: b"",
+        err,
+        written: FORMER,
+    };
+    check(rt, given, due)
+}
+
+/// A pad that is not 0: the place of its pair, its number (the second pads come after the first ones), and its value.
+type Pad = (usize, usize, u32);
+
+/// A key file with these pairs, in which all pads are 0 but these.
+pub fn key_file<R: AllocGlobal>(
+    rt: &R,
+    stations: u8,
+    words: u8,
+    pairs: &[(u8, u8)],
+    pads: &[Pad],
+) -> Result<Vec<u8>, NoMemory> {
+    let count = u8::try_from(pairs.len()).unwrap_or(0);
+    let mut file = Vec::from_slice(rt.alloc(), b"DCK\x01\0")?;
+    for byte in [stations, 0, words, 0, 0, 0, count] {
+        file.push(byte)?;
+    }
+    for (place, (u, v)) in pairs.iter().enumerate() {
+        for byte in [0, *u, 0, *v] {
+            file.push(byte)?;
+        }
+        push_pads(&mut file, place, words, pads)?;
+    }
+    Ok(file)
+}
+
+/// Pushes the first and second pads of a pair.
+fn push_pads(file: &mut Vec<u8>, place: usize, words: u8, pads: &[Pad]) -> Result<(), NoMemory> {
+    for n in 0..32 * usize::from(words) {
+        file.extend_from_slice(&pad_of(pads, place, n).to_be_bytes())?;
+    }
+    Ok(())
+}
+
+/// The pad of a number of a pair.
+fn pad_of(pads: &[Pad], place: usize, n: usize) -> u32 {
+    for (of, number, value) in pads {
+        if *of == place && *number == n {
+            return *value;
+        }
+    }
+    0
+}
