@@ -91,7 +91,7 @@ sized_stays : (bytes more : List ℕ) → 3 ≤ length bytes → (o : Option ℕ
 sized_stays bytes more long None = rw (get_or_append_left bytes more 0 0 (omega arith)) refl
 sized_stays bytes more long (Some n) = rw (get_or_append_left bytes more 0 1 (omega arith), get_or_append_left bytes more 0 2 (omega arith)) refl
 
-header_stays : (bytes more : List ℕ) → 3 ≤ length bytes → header_of (bytes ++ more) ≡ header_of bytes
+pub header_stays : (bytes more : List ℕ) → 3 ≤ length bytes → header_of (bytes ++ more) ≡ header_of bytes
 header_stays bytes more long =
     sized_stays bytes more long (body_length (get_or (bytes ++ more) 0 0)) ∙ ap (λ (t : ℕ). sized bytes (body_length t)) (get_or_append_left bytes more 0 0 (omega arith))
 
@@ -120,7 +120,7 @@ round_stays : (bytes more : List ℕ) → 69 ≤ length bytes → (get_or bytes 
 round_stays bytes more long tag =
     rw (get_or_append_left bytes more 0 0 (omega arith), tag, word_stays bytes more long) (worded_stays bytes more long _)
 
-body_stays : (bytes more : List ℕ) (n : ℕ) → header_of bytes ≡ Ok n → 3 + n ≤ length bytes → body_of (bytes ++ more) ≡ body_of bytes
+pub body_stays : (bytes more : List ℕ) (n : ℕ) → header_of bytes ≡ Ok n → 3 + n ≤ length bytes → body_of (bytes ++ more) ≡ body_of bytes
 body_stays bytes more n header long = elim (size_by_tag bytes n header) [
   | inl h ↦ hello_stays bytes more (omega (arith, h.1)) h.0
   | inr h ↦ round_stays bytes more (omega (arith, h.1)) h.0

@@ -2,3 +2,4 @@ pub mod Firsts
 pub mod Readings
 pub mod Readers
 pub mod WrittenFrames
+pub mod Growing

@@ -1,9 +1,9 @@
 //! A reader of frames.
 
-ghost use Rattle.std.specs.Prelude.{◌≡◌, ◌+◌, ◌≤◌, ◌<◌, ◌↔◌, ◌++◌, ℕ, List, [], length, slice_get, option_map, IfOk, IfErr, IfSome, IfNone, OnOk, OnErr, OnSome};
+ghost use Rattle.std.specs.Prelude.{◌≡◌, ◌+◌, ◌≤◌, ◌<◌, ◌↔◌, ◌++◌, ℕ, List, [], length, slice_get, option_map, Ok, IfOk, IfErr, IfSome, IfNone, OnOk, OnErr, OnSome};
 ghost use Rattle.std.specs.Result.{result_err};
 ghost use Rattle.dc_frame.specs.Frames.{frame_of};
-ghost use Rattle.dc_frame.specs.Reading.{reading, fault_in, missing as missing_of, needed, capped};
+ghost use Rattle.dc_frame.specs.Reading.{first, reading, fault_in, missing as missing_of, needed, capped};
 ghost use Rattle.dc_frame.specs.Reader.{StandsFor};
 
 use crate::fault::FrameFault;
@@ -59,6 +59,7 @@ impl Reader {
         requires fits { length piece.now ≤ missing_of self.old.part }
         ensures fault { (bytes : List ℕ) (taken : ℕ) → StandsFor self.old bytes taken → result_err result ≡ fault_in (bytes ++ piece.now) }
         ensures stands { OnOk result ((bytes : List ℕ) (taken : ℕ) → StandsFor self.old bytes taken → StandsFor self.new (bytes ++ piece.now) taken) }
+        ensures part { OnOk result (self.new ≡ record self.old { part = self.old.part ++ piece.now }) }
         ensures kept { OnErr result (self.new ≡ self.old) }
     {
         let before = self.part.len();
@@ -77,8 +78,10 @@ impl Reader {
 
     /// The frame that is there, which is taken out; none where no whole frame is there.
     pub fn take(&mut self) -> Option<Frame>
+        ensures value { Ok (option_map frame_of result) ≡ first self.old.part }
         ensures frame { (bytes : List ℕ) (taken : ℕ) → StandsFor self.old bytes taken → option_map frame_of result ≡ slice_get (reading bytes).frames taken }
         ensures stands { OnSome result ((bytes : List ℕ) (taken : ℕ) → StandsFor self.old bytes taken → StandsFor self.new bytes (taken + 1)) }
+        ensures begins { OnSome result (self.new.part ≡ []) }
         ensures kept { IfNone result (self.new ≡ self.old) }
     {
         match whole_frame(self.part.as_slice()) {

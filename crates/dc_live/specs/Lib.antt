@@ -1,0 +1,10 @@
+pub mod Hearing
+pub mod Talking
+pub mod Receiving
+pub mod Sending
+pub mod StationSession
+pub mod StationSteps
+pub mod Seats
+pub mod Greeting
+pub mod HubSession
+pub mod HubSteps
