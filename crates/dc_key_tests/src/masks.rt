@@ -7,7 +7,7 @@ use std::process::Abort;
 use std::test::*;
 
 /// The key file of three stations and three pairs with pads of all kinds, for so many words.
-fn file_of(alloc: Global, words: u16) -> Result<KeyFile, Fail> {
+pub(crate) fn file_of(alloc: Global, words: u16) -> Result<KeyFile, Fail> {
     let mut pairs = Vec::new(alloc);
     for (u, v, seed) in [(0, 1, 5), (0, 2, 77), (1, 2, 4001)] {
         let first = pads_of(alloc, words, seed, 1)?;

@@ -1,0 +1,5 @@
+mod CarryLemmas
+mod RowLemmas
+mod StepLemmas
+mod SymbolLemmas
+mod WalkLemmas

@@ -1,0 +1,104 @@
+//! What a block of received symbols contributes to later sums.
+
+ghost use Rattle.std.specs.Prelude.{◌≡◌, ◌++◌, ◌+◌, ◌-◌, ◌*◌, ◌<◌, ◌≤◌, ℕ, length, replicate, slice_index};
+ghost use Rattle.dc_spec.specs.Symbols.{AreSymbols};
+ghost use Rattle.dc_transform_rules.specs.Polynomials.{products};
+ghost use Rattle.dc_transform_rules.specs.Transforms.{size, forward, backward};
+ghost use Rattle.dc_fast_keys.specs.Spectrum.{Added, CarriedFrom};
+
+use dc_transform::{Roots, add_places, multiply_places};
+
+/// Adds to each column of later sums what a block of rows before them contributes, by the
+/// transforms of the pads of all columns. The block is as long as half of these transforms.
+pub(crate) fn add_block(
+    roots: &Roots,
+    width: usize,
+    depth: usize,
+    spectrum: &[u32],
+    block: &[u32],
+    sums: &mut [u32],
+    work: &mut [u32],
+)
+    requires some { 0 < depth }
+    requires most { depth ≤ 16 }
+    requires block_long { length block.now ≡ size width (depth - 1) }
+    requires spectrum_long { length spectrum.now ≡ size width depth }
+    requires work_long { length work.old ≡ size width depth }
+    requires sums_long { length sums.old ≤ length block.now }
+    requires spectrum_symbols { AreSymbols spectrum.now }
+    requires block_symbols { AreSymbols block.now }
+    requires sums_symbols { AreSymbols sums.old }
+    ensures added { Added width depth (size 1 (depth - 1)) spectrum.now block.now sums.old sums.new }
+    ensures symbols { AreSymbols sums.new }
+{
+    fill(work, block);
+    multiply(roots, width, depth, spectrum, work);
+    let half = block.len();
+    add_places(sums, &work[half..half + sums.len()]);
+}
+
+/// Writes a block, and as many zeros after it.
+fn fill(work: &mut [u32], block: &[u32])
+    requires long { length work.old ≡ length block.now + length block.now }
+    requires symbols { AreSymbols block.now }
+    ensures value { work.new ≡ block.now ++ replicate (length block.now) 0 }
+    ensures symbols { AreSymbols work.new }
+{
+    let (front, back) = work.split_at_mut(block.len());
+    front.copy_from_slice(block);
+    back.fill(0);
+}
+
+/// Multiplies polynomials that stand side by side by those whose transforms these are.
+fn multiply(roots: &Roots, width: usize, depth: usize, spectrum: &[u32], work: &mut [u32])
+    requires spectrum_long { length spectrum.now ≡ size width depth }
+    requires work_long { length work.old ≡ size width depth }
+    requires spectrum_symbols { AreSymbols spectrum.now }
+    requires work_symbols { AreSymbols work.old }
+    ensures value { work.new ≡ backward width depth 0 (products (forward width depth 0 work.old) spectrum.now) }
+    ensures symbols { AreSymbols work.new }
+{
+    roots.forward_in_place(width, depth, work);
+    multiply_places(work, spectrum);
+    roots.backward_in_place(width, depth, work);
+}
+
+/// Adds what the numbers of a block before place `now` contribute to the sums of a block from there
+/// on, as far as there are sums.
+pub(crate) fn carry_block(
+    roots: &Roots,
+    width: usize,
+    depth: usize,
+    spectrum: &[u32],
+    received: &[u32],
+    span: (usize, usize),
+    sums: &mut [u32],
+    work: &mut [u32],
+)
+    requires some { 0 < depth }
+    requires most { depth ≤ 16 }
+    requires block { span.0 ≡ size width (depth - 1) }
+    requires before { span.0 ≤ span.1 }
+    requires spectrum_long { length spectrum.now ≡ size width depth }
+    requires received_long { span.1 ≤ length received.now }
+    requires sums_long { span.1 ≤ length sums.old }
+    requires work_long { size width depth ≤ length work.old }
+    requires spectrum_symbols { AreSymbols spectrum.now }
+    requires received_symbols { AreSymbols received.now }
+    requires sums_symbols { AreSymbols sums.old }
+    ensures carried { CarriedFrom width depth (size 1 (depth - 1)) span.0 span.1 spectrum.now received.now sums.old sums.new }
+    ensures later { (n : ℕ) → span.1 + span.0 ≤ n → slice_index sums.new n ≡ slice_index sums.old n }
+    ensures symbols { AreSymbols sums.new }
+{
+    let (block, now) = span;
+    let end = sums.len().min(now + block);
+    add_block(
+        roots,
+        width,
+        depth,
+        spectrum,
+        &received[now - block..now],
+        &mut sums[now..end],
+        &mut work[..block + block],
+    );
+}

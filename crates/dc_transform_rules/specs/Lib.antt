@@ -1,0 +1,4 @@
+pub mod Residues
+pub mod Polynomials
+pub mod Transforms
+pub mod Laws
