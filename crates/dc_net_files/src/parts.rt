@@ -48,7 +48,11 @@ pub(crate) fn read_key_file<R: Threads + Sync, F: Shelf>(
 }
 
 /// The stream of a name.
-fn read_stream_file<F: Shelf>(alloc: Global, shelf: &mut F, name: &str) -> Result<Stream, NotRead>
+pub(crate) fn read_stream_file<F: Shelf>(
+    alloc: Global,
+    shelf: &mut F,
+    name: &str,
+) -> Result<Stream, NotRead>
     ensures { Ended (file_step name.now stream_limit stream_of)
         (F.state shelf.old) (F.state shelf.new) result }
 {
