@@ -16,3 +16,5 @@ pub mod CoreLemmas
 pub mod AcceptLemmas
 pub mod HubAtLemmas
 pub mod CompleteLemmas
+pub mod ServeLemmas
+pub mod ServedLemmas

@@ -7,4 +7,6 @@ pub mod StationSteps
 pub mod Seats
 pub mod Greeting
 pub mod HubSession
+pub mod Serving
+pub mod ServingSteps
 pub mod HubSteps

@@ -8,10 +8,12 @@ mod hub;
 mod receiving;
 mod seats;
 mod sending;
+mod serving;
 mod station;
 
 pub use fault::{LiveFault, PeerFault};
 pub use greeting::greet;
 pub use hub::hub_session;
 pub use seats::Seats;
+pub use serving::serve;
 pub use station::station_session;
