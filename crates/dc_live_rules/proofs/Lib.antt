@@ -1,0 +1,5 @@
+pub mod Rows
+pub mod RunWords
+pub mod LiveRounds
+pub mod RunsLive
+pub mod RecordedWords

@@ -1,0 +1,2 @@
+pub mod LiveRuns
+pub mod Laws
