@@ -199,13 +199,13 @@ def unchecked_station(case):
     """What of a station's session is not checked."""
     if not has_session(case):
         return "agreement of files, and key files of version 2, are not defined yet"
-    return "how a session is refused is not defined yet" if case["status"] else None
+    return "no kind computes how a session is refused" if case["status"] else None
 
 
 # what of a line no kind here checks
 UNCHECKED = {
     "station_sessions": unchecked_station,
-    "hub_sessions": lambda case: "how a session is refused is not defined yet" if case["status"] else None,
+    "hub_sessions": lambda case: "no kind computes how a session is refused" if case["status"] else None,
 }
 
 KINDS = {

@@ -6,7 +6,7 @@ use crate::reading::{are_bytes, byte_number, number, part, short_number, word};
 use crate::sessions::{
     Session, other_0, other_1, other_2, other_3, other_4, other_5, other_6, other_7, other_8,
     other_9, other_10, other_11, worked_0, worked_1, worked_2, worked_3, worked_4, worked_5,
-    worked_6, worked_7, worked_8, worked_9, worked_10, worked_11, worked_12, worked_13,
+    worked_6, worked_7, worked_8, worked_9, worked_10, worked_11, worked_12, worked_13, worked_14,
 };
 use dc_field::{Bytes, Value, Word};
 use dc_station::{Entry, Log, Phase, Receiver, Station};
@@ -191,6 +191,7 @@ fn stations_in_sessions_worked_by_hand(rt: HostRuntime) -> Result<(), Fail> {
     follows(alloc, &worked_11())?;
     follows(alloc, &worked_12())?;
     follows(alloc, &worked_13())?;
+    follows(alloc, &worked_14())?;
     Ok(())
 }
 
