@@ -1,20 +1,23 @@
 -- What a block of received symbols contributes to later sums, column by column.
-use Rattle.std.proofs.Common.{◌≡◌, ◌≢◌, ℕ, zero, suc, ◌+◌, ◌-◌, ◌*◌, ◌%◌, ◌<◌, ◌≤◌, min, List, ◌++◌, length, get_or, map, replicate, take, drop, sum_by, refl, sym, ap, subst, ◌∙◌, arith, inl, inr}
+use Rattle.std.proofs.Common.{◌≡◌, ◌≢◌, ℕ, zero, suc, ◌+◌, ◌-◌, ◌*◌, ◌/◌, ◌%◌, ◌<◌, ◌≤◌, min, List, ◌++◌, length, get_or, map, replicate, take, drop, sum_by, refl, sym, ap, subst, ◌∙◌, arith, inl, inr}
 use Rattle.std.specs.List.{range_with_len}
 use Rattle.std.proofs.lemmas.List.{length-append, length-replicate, length-take, length-drop, get_or-drop, get_or-take, get_or-append-add, get_or_append_left}
+use Rattle.std.proofs.lemmas.List.{ext_get_or}
+use Rattle.std.proofs.Math.Nat.{div-add-mod}
+use Rattle.std.proofs.lemmas.Nat.{mod_below}
 use borrow.Rule.Slice.PartMut.{put_mid}
 use Rattle.dc_spec.specs.Symbols.{AreSymbols}
 use Rattle.std.proofs.lemmas.List.FromFn.{get_or-map-range_with_len}
 use Rattle.std.proofs.lemmas.Bool.{cases_lt}
 use Rattle.std.proofs.Math.Nat.{mul-le-mul_left}
 use Rattle.dc_transform_rules.specs.Residues.{plus}
-use Rattle.dc_transform_rules.specs.Polynomials.{sums, products, product}
+use Rattle.dc_transform_rules.specs.Polynomials.{sums, products, product, rows_scaled}
 use Rattle.dc_transform_rules.specs.Transforms.{size, forward, backward, column}
 use Rattle.dc_transform_rules.proofs.ListLemmas.{length-products}
 use Rattle.dc_transform_rules.proofs.CoefficientLemmas.{get_or-sums, product-carry, sum_range-same}
-use Rattle.dc_transform_rules.proofs.TransformLemmas.{length-forward, product-divided}
-use Rattle.dc_transform_rules.proofs.ColumnLemmas.{column-append, column-products, column-forward, column-backward, length-column, size-times}
-use Rattle.dc_fast_keys.specs.Spectrum.{padded, IsSpectrum, contribution, Added, CarriedFrom}
+use Rattle.dc_transform_rules.proofs.TransformLemmas.{length-forward, product-divided, size-down}
+use Rattle.dc_transform_rules.proofs.ColumnLemmas.{map_range-same, column-append, column-products, column-forward, column-backward, column-rows, length-column, size-times}
+use Rattle.dc_fast_keys.specs.Spectrum.{padded, IsSpectrum, contribution, AreAlike, Added, CarriedFrom}
 use Rattle.dc_fast_keys.proofs.RowLemmas.{row_within}
 use Rattle.dc_fast_keys.proofs.SymbolLemmas.{symbols-take, symbols-drop, symbols-append}
 
@@ -118,6 +121,63 @@ added-down width (suc d) n spectrum block before after w r some low long_block l
     (added width d spectrum block before after low (long_block ∙ ap (size width) e) long within
     (is ∙ ap (λ k. sums before (take k (drop (length block) r))) count ∙ ap (λ l. sums before (take (length before) (drop (length block) l))) full)
     (sym (ap (λ l. length l) full) ∙ long_r))
+
+-- lists of rows with the same columns are the same
+same_columns : (width rows : ℕ) (a b : List ℕ) → 0 < width → length a ≡ width * rows → length b ≡ width * rows
+    → ((s : ℕ) → s < width → column width rows s a ≡ column width rows s b) → a ≡ b
+same_columns width rows a b some long_a long_b same =
+    ext_get_or 0 a b (long_a ∙ sym long_b) (λ i lt.
+    let place : width * (i / width) + i % width ≡ i = div-add-mod i width in
+    let within = mod_below i width some in
+    let low = row_below width (i / width) (i % width) rows (omega arith) in
+    ap (λ j. get_or a j 0) (sym place) ∙ sym (column-at width rows (i % width) (i / width) a low)
+    ∙ ap (λ l. get_or l (i / width) 0) (same (i % width) within) ∙ column-at width rows (i % width) (i / width) b low ∙ ap (λ j. get_or b j 0) place)
+
+-- half of the rows of a transform
+pub half-rows : (depth n : ℕ) → 0 < depth → n ≡ size 1 depth → n / 2 ≡ size 1 (depth - 1)
+half-rows depth n some is = let down = size-down 1 depth (omega arith) in omega arith
+
+-- a row that has one number
+pub row_alike : (block : List ℕ) (n a width k s : ℕ) → s < width → n ≡ width → a ≡ width * k → a + width ≤ length block
+    → ((s : ℕ) → s < length (take n (drop a block)) → get_or (take n (drop a block)) s 0 ≡ get_or (take n (drop a block)) 0 0)
+    → get_or block (width * k + s) 0 ≡ get_or block (width * k + 0) 0
+row_alike block n a width k s within is place inside same =
+    let long : length (take n (drop a block)) ≡ width = (let h = length-take n (drop a block) in let g = length-drop a block in omega arith) in
+    ap (λ j. get_or block (j + s) 0) (sym place) ∙ sym (get_or-take n (drop a block) s 0 (omega arith) ∙ get_or-drop a block s 0)
+    ∙ same s (omega arith) ∙ get_or-take n (drop a block) 0 0 (omega arith) ∙ get_or-drop a block 0 0 ∙ ap (λ j. get_or block (j + 0) 0) place
+
+-- where all columns of a block are alike, the transform of one of them serves for all
+pub alike_products : (width depth rows : ℕ) (spectrum block one : List ℕ) → 0 < width → 0 < depth → length block ≡ size width (depth - 1) → length spectrum ≡ size width depth
+    → rows ≡ size 1 (depth - 1) → AreAlike width (size 1 (depth - 1)) block → one ≡ column width rows 0 block ++ replicate rows 0
+    → length (rows_scaled width spectrum (forward 1 depth 0 one)) ≡ size width depth
+    → rows_scaled width spectrum (forward 1 depth 0 one) ≡ products (forward width depth 0 (block ++ replicate (length block) 0)) spectrum
+alike_products width zero rows spectrum block one some none long_block long rows_is alike one_is long_scaled = absurd (omega arith)
+alike_products width (suc d) rows spectrum block one some none long_block long rows_is alike one_is long_scaled =
+    let m = size 1 d in
+    let e : suc d - 1 ≡ d = omega arith in
+    let w = block ++ replicate (length block) 0 in
+    let f = forward width (suc d) 0 w in
+    let g = forward 1 (suc d) 0 one in
+    let here : rows ≡ m = rows_is ∙ ap (size 1) e in
+    let one_long : length one ≡ m + m = (let h = ap (λ l. length l) one_is in let i = length-append (column width rows 0 block) (replicate rows 0) in let j = length-column width 0 some rows block in let r = length-replicate {A = ℕ} rows 0 in omega arith) in
+    let g_long : length g ≡ m + m = length-forward 1 (suc d) 0 one one_long in
+    let long_b : length block ≡ size width d = long_block ∙ ap (size width) e in
+    let long_w : length w ≡ size width (suc d) = (let h = length-append block (replicate (length block) 0) in let i = length-replicate {A = ℕ} (length block) 0 in omega arith) in
+    let long_f : length f ≡ size width (suc d) = length-forward width (suc d) 0 w long_w in
+    let whole : size width (suc d) ≡ width * (m + m) = size-times width (suc d) in
+    same_columns width (m + m) (rows_scaled width spectrum g) (products f spectrum) some (long_scaled ∙ whole) (length-products f spectrum (long_f ∙ sym long) ∙ long_f ∙ whole)
+    (λ s within.
+    let same : column width m s block ≡ column width m 0 block =
+    map_range-same (λ k. get_or block (width * k + s) 0) (λ k. get_or block (width * k + 0) 0) 0 m (λ k low high. subst (λ (q : ℕ). AreAlike width (size 1 q) block) e alike k s within (omega arith)) in
+    let halves : column width (m + m) s w ≡ one =
+    column-append width s within m m block (replicate (length block) 0) (long_b ∙ size-times width d)
+    ∙ ap (λ t. column width m s block ++ t) (column_zeros width (length block) s 0 m) ∙ ap (λ t. t ++ replicate m 0) same
+    ∙ sym (one_is ∙ ap (λ (n : ℕ). column width n 0 block ++ replicate n 0) here) in
+    ap (λ (n : ℕ). column width n s (rows_scaled width spectrum g)) (sym g_long)
+    ∙ column-rows width s within spectrum g (long ∙ whole ∙ ap (λ (n : ℕ). width * n) (sym g_long))
+    ∙ ap (λ (n : ℕ). products g (column width n s spectrum)) g_long
+    ∙ sym (column-products width s within (m + m) f spectrum (long_f ∙ sym long)
+    ∙ ap (λ t. products t (column width (m + m) s spectrum)) (column-forward width s within (suc d) 0 w long_w ∙ ap (forward 1 (suc d) 0) halves)))
 
 -- a piece that was written
 pub put_here : (a k j : ℕ) (xs ys : List ℕ) → a ≤ length xs → j < length ys → get_or (put_mid a k xs ys) (a + j) 0 ≡ get_or ys j 0

@@ -32,7 +32,7 @@ pub record IsNetKeys (k : KeysState) (work : List ℕ) : Type 0 where
   pub received_symbols : AreSymbols k.received
   pub spectra_many : (q : ℕ) → 2 ^ q < k.words → q < length k.spectra
   pub spectra_long : (q : ℕ) → 2 ^ q < k.words → length (slice_index_or k.spectra q []) ≡ size k.stations (q + 5)
-  pub work_long : (q : ℕ) → 2 ^ q < k.words → size k.stations (q + 5) ≤ length work
+  pub work_long : (q : ℕ) → 2 ^ q < k.words → size k.stations (q + 5) + size 1 (q + 5) ≤ length work
 
 -- sum n of a station: its first pad and the products of the symbols of so many words with second pads
 abbrev pub sum_of : StationPads → List (List ℕ) → ℕ → ℕ → ℕ

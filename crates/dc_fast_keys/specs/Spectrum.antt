@@ -20,6 +20,11 @@ abbrev pub contribution : ℕ → ℕ → ℕ → List ℕ → List ℕ → ℕ 
 contribution width rows s pads block i =
     sum_by (λ k. slice_index pads (rows + i - k) * slice_index block (width * k + s)) (range_with_len 0 rows)
 
+-- each of so many rows has one number in all columns
+abbrev pub AreAlike : ℕ → ℕ → List ℕ → Type 0
+AreAlike width rows block =
+    (k s : ℕ) → s < width → k < rows → slice_index block (width * k + s) ≡ slice_index block (width * k + 0)
+
 -- sums before and after a block of so many rows was added to them: each column that is the transform
 -- of pads contributes by these pads
 abbrev pub Added : ℕ → ℕ → ℕ → List ℕ → List ℕ → List ℕ → List ℕ → Type 0

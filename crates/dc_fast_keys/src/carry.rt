@@ -1,15 +1,17 @@
 //! What a block of received symbols contributes to later sums.
 
-ghost use Rattle.std.specs.Prelude.{◌≡◌, ◌++◌, ◌+◌, ◌-◌, ◌*◌, ◌<◌, ◌≤◌, ℕ, length, replicate, slice_index};
+ghost use Rattle.std.specs.Prelude.{◌≡◌, ◌++◌, ◌+◌, ◌-◌, ◌*◌, ◌^◌, ◌<◌, ◌≤◌, ℕ, length, replicate, slice_index};
 ghost use Rattle.dc_spec.specs.Symbols.{AreSymbols};
 ghost use Rattle.dc_transform_rules.specs.Polynomials.{products};
 ghost use Rattle.dc_transform_rules.specs.Transforms.{size, forward, backward};
 ghost use Rattle.dc_fast_keys.specs.Spectrum.{Added, CarriedFrom};
 
+use crate::alike::{are_alike, multiply_alike};
 use dc_transform::{Roots, add_places, multiply_places};
 
 /// Adds to each column of later sums what a block of rows before them contributes, by the
-/// transforms of the pads of all columns. The block is as long as half of these transforms.
+/// transforms of the pads of all columns. The block is as long as half of these transforms. There is
+/// room for the products in `many`, and for one of them in `one`.
 pub(crate) fn add_block(
     roots: &Roots,
     width: usize,
@@ -17,13 +19,15 @@ pub(crate) fn add_block(
     spectrum: &[u32],
     block: &[u32],
     sums: &mut [u32],
-    work: &mut [u32],
+    many: &mut [u32],
+    one: &mut [u32],
 )
     requires some { 0 < depth }
     requires most { depth ≤ 16 }
     requires block_long { length block.now ≡ size width (depth - 1) }
     requires spectrum_long { length spectrum.now ≡ size width depth }
-    requires work_long { length work.old ≡ size width depth }
+    requires many_long { length many.old ≡ size width depth }
+    requires one_long { length one.old ≡ size 1 depth }
     requires sums_long { length sums.old ≤ length block.now }
     requires spectrum_symbols { AreSymbols spectrum.now }
     requires block_symbols { AreSymbols block.now }
@@ -31,10 +35,40 @@ pub(crate) fn add_block(
     ensures added { Added width depth (size 1 (depth - 1)) spectrum.now block.now sums.old sums.new }
     ensures symbols { AreSymbols sums.new }
 {
-    fill(work, block);
-    multiply(roots, width, depth, spectrum, work);
+    multiply_block(roots, width, depth, spectrum, block, many, one);
     let half = block.len();
-    add_places(sums, &work[half..half + sums.len()]);
+    add_places(sums, &many[half..half + sums.len()]);
+}
+
+/// Writes to `many` the products of the polynomials of a block, with as many zeros after their
+/// coefficients, by those whose transforms these are.
+fn multiply_block(
+    roots: &Roots,
+    width: usize,
+    depth: usize,
+    spectrum: &[u32],
+    block: &[u32],
+    many: &mut [u32],
+    one: &mut [u32],
+)
+    requires some { 0 < depth }
+    requires most { depth ≤ 16 }
+    requires block_long { length block.now ≡ size width (depth - 1) }
+    requires spectrum_long { length spectrum.now ≡ size width depth }
+    requires many_long { length many.old ≡ size width depth }
+    requires one_long { length one.old ≡ size 1 depth }
+    requires spectrum_symbols { AreSymbols spectrum.now }
+    requires block_symbols { AreSymbols block.now }
+    ensures value { many.new ≡ backward width depth 0
+        (products (forward width depth 0 (block.now ++ replicate (length block.now) 0)) spectrum.now) }
+    ensures symbols { AreSymbols many.new }
+{
+    if 0 < width && are_alike(width, one.len() / 2, block) {
+        multiply_alike(roots, width, depth, spectrum, block, many, one);
+    } else {
+        fill(many, block);
+        multiply(roots, width, depth, spectrum, many);
+    }
 }
 
 /// Writes a block, and as many zeros after it.
@@ -63,6 +97,14 @@ fn multiply(roots: &Roots, width: usize, depth: usize, spectrum: &[u32], work: &
     roots.backward_in_place(width, depth, work);
 }
 
+/// How many rows a transform of this depth has, 2^depth.
+fn rows_at(depth: usize) -> usize
+    requires { depth ≤ 16 }
+    ensures { result ≡ 2 ^ depth }
+{
+    1 << depth
+}
+
 /// Adds what the numbers of a block before place `now` contribute to the sums of a block from there
 /// on, as far as there are sums.
 pub(crate) fn carry_block(
@@ -82,7 +124,7 @@ pub(crate) fn carry_block(
     requires spectrum_long { length spectrum.now ≡ size width depth }
     requires received_long { span.1 ≤ length received.now }
     requires sums_long { span.1 ≤ length sums.old }
-    requires work_long { size width depth ≤ length work.old }
+    requires work_long { size width depth + size 1 depth ≤ length work.old }
     requires spectrum_symbols { AreSymbols spectrum.now }
     requires received_symbols { AreSymbols received.now }
     requires sums_symbols { AreSymbols sums.old }
@@ -92,6 +134,7 @@ pub(crate) fn carry_block(
 {
     let (block, now) = span;
     let end = sums.len().min(now + block);
+    let (many, rest) = work.split_at_mut(spectrum.len());
     add_block(
         roots,
         width,
@@ -99,6 +142,7 @@ pub(crate) fn carry_block(
         spectrum,
         &received[now - block..now],
         &mut sums[now..end],
-        &mut work[..block + block],
+        many,
+        &mut rest[..rows_at(depth)],
     );
 }

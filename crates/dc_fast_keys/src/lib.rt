@@ -1,6 +1,7 @@
 //! The keys of all stations of a net, by products of polynomials.
 #![tactic(auto)]
 
+mod alike;
 mod carry;
 mod net_keys;
 mod pads;

@@ -79,7 +79,7 @@ impl NetKeys {
         let spectra = spectra_of(alloc, &roots, levels_of(words), pads)?;
         let sums = Table::of_first(alloc, 16 * words, pads)?;
         let received = Table::zeros(alloc, pads.len() * (16 * words))?;
-        let work = Table::zeros(alloc, pads.len() * (32 * words))?;
+        let work = Table::zeros(alloc, (pads.len() + 1) * (32 * words))?;
         Ok(NetKeys {
             stations: pads.len(),
             words,

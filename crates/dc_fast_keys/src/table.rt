@@ -97,7 +97,7 @@ impl Table {
         requires spectrum_long { length spectrum.now ≡ size width depth }
         requires received_long { span.1 ≤ length received.now }
         requires sums_long { span.1 ≤ length self.old }
-        requires work_long { size width depth ≤ length work.old }
+        requires work_long { size width depth + size 1 depth ≤ length work.old }
         requires spectrum_symbols { AreSymbols spectrum.now }
         requires received_symbols { AreSymbols received.now }
         requires sums_symbols { AreSymbols self.old }

@@ -6,6 +6,7 @@ pub mod Differences
 pub mod Refusals
 pub mod Columns
 pub mod Seats
+pub mod KeyStrips
 pub mod RowWalk
 pub mod RoundWords
 pub mod SeatLists

@@ -12,7 +12,7 @@ use Rattle.dc_spec.specs.Net.{Net}
 use Rattle.dc_net_rules.specs.Runs.{honest_stations, station_stream}
 use Rattle.dc_net_rules.proofs.Agreeing.{has_stream}
 use Rattle.dc_net.specs.Checked.{IsChecked}
-use Rattle.dc_net.specs.Seat.{SeatState, with_heard}
+use Rattle.dc_net.specs.Seat.{SeatState}
 use Rattle.dc_net.specs.Run.{seat_at, seats_after}
 use Rattle.dc_net.proofs.RowWalk.{passing, passed_over}
 
@@ -23,18 +23,6 @@ few_honest net =
     let few = count_by-le-length (λ i. not (is_among net.coalition i)) (range_with_len 0 net.stations) in
     let all = length-range_with_len 0 net.stations in
     omega arith
-
--- what a call left of a seat that it was given
-pub seat_left : (heard : List (List ℕ)) (more after argument seat : SeatState) → after ≡ more → after ≡ with_heard heard argument → argument ≡ seat
-    → more ≡ with_heard heard seat
-seat_left heard more after argument seat left call is = sym left ∙ call ∙ ap (with_heard heard) is
-
--- where each seat has taken its word, all have
-pub all_taken : (heard : List (List ℕ)) (seats more : List SeatState) → length more ≡ length seats
-    → ((i : ℕ) (d : SeatState) → i < length seats → get_or more i d ≡ with_heard heard (get_or seats i d)) → more ≡ map (with_heard heard) seats
-all_taken heard seats more long each =
-    same_lists more (map (with_heard heard) seats) (long ∙ sym (length-map seats (with_heard heard)))
-    (λ k d within. (let low : k < length seats = omega arith in each k d low ∙ sym (get_or-map (with_heard heard) seats k d d low)))
 
 -- the honest stations after the first i stations, and the seats of those among them
 pub record Seated (net : Net) (seats : List SeatState) (i : ℕ) : Type 0 where
@@ -56,6 +44,11 @@ next_honest net seats i stream checked below seated is =
 pub room_for_seat : (net : Net) (seats : List SeatState) (i : ℕ) (stream : Stream) → IsChecked net → i < net.stations → Seated net seats i
     → get_or net.streams i None ≡ Some stream → length seats < length (honest_stations net)
 room_for_seat net seats i stream checked below seated is = (next_honest net seats i stream checked below seated is).0
+
+-- and it is the station at this place
+pub place_of_seat : (net : Net) (seats : List SeatState) (i : ℕ) (stream : Stream) → IsChecked net → i < net.stations → Seated net seats i
+    → get_or net.streams i None ≡ Some stream → get_or (honest_stations net) (length seats) 0 ≡ i
+place_of_seat net seats i stream checked below seated is = (next_honest net seats i stream checked below seated is).1.0
 
 -- its seat is next
 pub Seated-more : (net : Net) (seats : List SeatState) (i : ℕ) (stream : Stream) (seat : SeatState) → IsChecked net → i < net.stations → Seated net seats i

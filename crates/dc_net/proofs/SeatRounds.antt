@@ -1,19 +1,21 @@
 -- The seats of the honest stations, round after round.
-use Rattle.std.proofs.Common.{◌≡◌, ℕ, ◌+◌, ◌-◌, ◌*◌, ◌<◌, Bool, true, ltb, if◌then◌else◌, List, [], ◌∷◌, ◌++◌, length, get_or, map, take, sym, ap, subst, ◌∙◌, arith, lt-ltb, All}
+use Rattle.std.proofs.Common.{◌≡◌, ℕ, ◌+◌, ◌-◌, ◌*◌, ◌<◌, ◌≤◌, Bool, true, ltb, if◌then◌else◌, List, [], ◌∷◌, ◌++◌, length, get_or, map, take, drop, refl, sym, ap, subst, ◌∙◌, arith, lt-ltb, All}
 use Rattle.std.specs.List.{flat_map}
 use Rattle.std.proofs.Math.Nat.{mul-le-mul_right}
-use Rattle.std.proofs.lemmas.List.{length-map, length-append, get_or-map, length-take-le, get_or_push, get_or_append_left}
+use Rattle.std.proofs.lemmas.List.{length-map, length-append, length-drop, get_or-map, get_or-take, get_or-drop, get_or_default, length-take-le, get_or_push, get_or_append_left}
 use Rattle.std.proofs.lemmas.List.Concat.{get_or-flat_map}
 use Rattle.std.proofs.lemmas.List.FromFn.{get_or-map-range_with_len, length-map-range_with_len, fill_by_all}
 use Rattle.dc_spec.specs.Words.{zero_word}
+use Rattle.dc_spec.specs.Pads.{Keys}
 use Rattle.dc_spec.specs.Net.{Net}
 use Rattle.dc_net_rules.specs.Runs.{Round, word_of_station, honest_stations, history, station_stream, next_round, rounds_of}
 use Rattle.dc_net_rules.proofs.Agreeing.{all_agree}
 use Rattle.dc_net_rules.proofs.RoundLemmas.{length-rounds_of, rounds_more, pieces_more, history_more, length-history}
 use Rattle.dc_net.specs.Checked.{IsChecked}
 use Rattle.dc_net.specs.Rows.{AreWordsOf}
-use Rattle.dc_net.specs.Seat.{SeatState, seat_word, HearsNext, with_heard}
-use Rattle.dc_net.specs.Run.{seat_at, seats_after, heard_row, honest_word}
+use Rattle.dc_net.specs.RoundKeys.{RoundKeysState, KeysAt}
+use Rattle.dc_net.specs.Seat.{SeatState, seat_word, HearsNext, TakesNext, with_heard}
+use Rattle.dc_net.specs.Run.{seat_at, seats_after, AreKeyed, heard_row, honest_word}
 use Rattle.dc_net.proofs.Seats.{with_word}
 use Rattle.dc_net.proofs.Recording.{length-delivered}
 
@@ -80,18 +82,6 @@ hears_next net t j checked low place =
     get_or_front : (xs ys : List (List ℕ)) (m : ℕ) → m < length xs → get_or (xs ++ ys) m zero_word ≡ get_or xs m zero_word
     get_or_front xs ys m less = get_or_append_left xs ys zero_word m less
 
--- so each seat does
-pub all_hear : (net : Net) (t : ℕ) (heard : List (List ℕ)) → IsChecked net → t < net.words → heard ≡ flat_map (heard_row net) (rounds_of net (t + 1))
-    → All (HearsNext heard) (seats_after net (rounds_of net t))
-all_hear net t heard checked low is = λ k d within.
-    let place : k < length (honest_stations net) = let count = length-seats net (rounds_of net t) in omega arith in
-    let all : flat_map (heard_row net) (rounds_of net t ++ next_round net (rounds_of net t) ∷ []) ≡ heard = sym (is
-    ∙ ap (λ (played : List Round). flat_map (heard_row net) played) (rounds_more net t)) in
-    let here : HearsNext heard (seat_at net (rounds_of net t) k) = subst (λ (ws : List (List ℕ)). HearsNext ws (seat_at net (rounds_of net t) k)) all
-    (hears_next net t k checked low place) in
-    subst (λ (seat : SeatState). HearsNext heard seat)
-    (sym (get_or-map-range_with_len (seat_at net (rounds_of net t)) 0 (length (honest_stations net)) k k d place (omega arith))) here
-
 -- and has then received the words of one round more
 next_seat : (net : Net) (t j : ℕ) → IsChecked net → t < net.words → j < length (honest_stations net)
     → with_heard (flat_map (heard_row net) (rounds_of net t ++ next_round net (rounds_of net t) ∷ [])) (seat_at net (rounds_of net t) j) ≡ seat_at net
@@ -124,6 +114,86 @@ next_seat net t j checked low place =
       place = j;
       seats = length (honest_stations net);
     }) received
+
+-- a whole row was heard
+pub row_there : (net : Net) (t : ℕ) (heard : List (List ℕ)) → heard ≡ flat_map (heard_row net) (rounds_of net (t + 1))
+    → length (honest_stations net) ≤ length heard
+row_there net t heard is =
+    let all = ap (λ (ws : List (List ℕ)). length ws) is ∙ length-delivered net (rounds_of net (t + 1)) in
+    let rounds = length-rounds_of net (t + 1) in
+    let one = mul-le-mul_right {m = 1} {n = length (rounds_of net (t + 1))} (length (honest_stations net)) (omega arith) in omega arith
+
+-- the last row, and the word at a place of it
+pub length-last_row : (heard : List (List ℕ)) (n : ℕ) → n ≤ length heard
+    → length (take (length heard - (length heard - n)) (drop (length heard - n) heard)) ≡ n
+length-last_row heard n le =
+    let kept = length-drop (length heard - n) heard in
+    length-take-le (length heard - (length heard - n)) (drop (length heard - n) heard) (omega arith)
+    ∙ (let e : length heard - (length heard - n) ≡ n = omega arith in e)
+
+pub last_row-at : (heard : List (List ℕ)) (n m j : ℕ) → n ≡ m → m ≤ length heard → j < m
+    → get_or (take (length heard - (length heard - n)) (drop (length heard - n) heard)) j [] ≡ get_or heard (length heard - m + j) zero_word
+last_row-at heard n m j same le low =
+    get_or-take (length heard - (length heard - n)) (drop (length heard - n) heard) j [] (omega arith)
+    ∙ get_or-drop (length heard - n) heard j []
+    ∙ ap (λ (k : ℕ). get_or heard (length heard - k + j) []) same
+    ∙ get_or_default heard (length heard - m + j) [] zero_word (omega arith)
+
+-- a station's history with the word at its place in the last row
+pub next_history : (net : Net) (t j : ℕ) (heard : List (List ℕ)) → IsChecked net → t < net.words → j < length (honest_stations net)
+    → heard ≡ flat_map (heard_row net) (rounds_of net (t + 1))
+    → history (rounds_of net t) (get_or (honest_stations net) j 0) ++ get_or heard (length heard - length (honest_stations net) + j) zero_word ∷ []
+    ≡ history (rounds_of net (t + 1)) (get_or (honest_stations net) j 0)
+next_history net t j heard checked low place is =
+    let more = rounds_of net t ++ next_round net (rounds_of net t) ∷ [] in
+    let all : heard ≡ flat_map (heard_row net) more = is ∙ ap (λ (played : List Round). flat_map (heard_row net) played) (rounds_more net t) in
+    let here = with_word (flat_map (heard_row net) more) (seat_at net (rounds_of net t) j)
+    (get_or (flat_map (heard_row net) more) (length (flat_map (heard_row net) more) - length (honest_stations net) + j) zero_word)
+    (hears_next net t j checked low place) refl in
+    let next = ap (λ (s : SeatState). s.received) (next_seat net t j checked low place) in
+    ap (λ (ws : List (List ℕ)). history (rounds_of net t) (get_or (honest_stations net) j 0) ++ get_or ws (length ws - length (honest_stations net) + j) zero_word ∷ []) all
+    ∙ sym here ∙ next ∙ ap (λ (played : List Round). history played (get_or (honest_stations net) j 0)) (sym (rounds_more net t))
+
+-- the keys of all honest stations with the words of one round more
+pub AreKeyed-more : (net : Net) (t : ℕ) (heard row : List (List ℕ)) (keys after : RoundKeysState) → IsChecked net → t < net.words
+    → heard ≡ flat_map (heard_row net) (rounds_of net (t + 1))
+    → ((j : ℕ) → j < length (honest_stations net) → get_or row j [] ≡ get_or heard (length heard - length (honest_stations net) + j) zero_word)
+    → AreKeyed net (rounds_of net t) keys → after.places ≡ keys.places → after.taken ≡ keys.taken + 1 → after.total ≡ keys.total
+    → ((place : ℕ) (pads : Keys) (station : ℕ) (received : List (List ℕ)) → KeysAt keys place pads station received
+    → KeysAt after place pads station (received ++ get_or row place [] ∷ []))
+    → AreKeyed net (rounds_of net (t + 1)) after
+AreKeyed-more net t heard row keys after checked low is read keyed places taken total takes = record {
+  places = places ∙ keyed.places;
+  taken = let e = keyed.taken in let long = length-rounds_of net t in let more = length-rounds_of net (t + 1) in omega arith;
+  total = total ∙ keyed.total;
+  each = λ j place.
+      let i = get_or (honest_stations net) j 0 in
+      subst (λ (ws : List (List ℕ)). KeysAt after j net.keys (get_or (honest_stations net) j 0) ws)
+      (ap (λ (w : List ℕ). history (rounds_of net t) (get_or (honest_stations net) j 0) ++ w ∷ []) (read j place)
+      ∙ next_history net t j heard checked low place is)
+      (takes j net.keys (get_or (honest_stations net) j 0) (history (rounds_of net t) (get_or (honest_stations net) j 0)) (keyed.each j place));
+}
+
+-- so each seat can take its word, once the keys have taken theirs
+pub all_take : (net : Net) (t : ℕ) (heard : List (List ℕ)) (keys : RoundKeysState) → IsChecked net → t < net.words
+    → heard ≡ flat_map (heard_row net) (rounds_of net (t + 1)) → AreKeyed net (rounds_of net (t + 1)) keys
+    → All (TakesNext heard keys) (seats_after net (rounds_of net t))
+all_take net t heard keys checked low is keyed = λ k d within.
+    let place : k < length (honest_stations net) = let count = length-seats net (rounds_of net t) in omega arith in
+    let more = rounds_of net t ++ next_round net (rounds_of net t) ∷ [] in
+    let all : flat_map (heard_row net) more ≡ heard = sym (is ∙ ap (λ (played : List Round). flat_map (heard_row net) played) (rounds_more net t)) in
+    let hears : HearsNext heard (seat_at net (rounds_of net t) k) = subst (λ (ws : List (List ℕ)). HearsNext ws (seat_at net (rounds_of net t) k)) all
+    (hears_next net t k checked low place) in
+    let received : history (rounds_of net (t + 1)) (get_or (honest_stations net) k 0) ≡ (with_heard heard (seat_at net (rounds_of net t) k)).received =
+    sym (ap (λ (ws : List (List ℕ)). (with_heard ws (seat_at net (rounds_of net t) k)).received) (sym all)
+    ∙ ap (λ (s : SeatState). s.received) (next_seat net t k checked low place)
+    ∙ ap (λ (played : List Round). history played (get_or (honest_stations net) k 0)) (sym (rounds_more net t))) in
+    let here : TakesNext heard keys (seat_at net (rounds_of net t) k) = record {
+      hears = hears;
+      keyed = subst (λ (ws : List (List ℕ)). KeysAt keys k net.keys (get_or (honest_stations net) k 0) ws) received (keyed.each k place);
+    } in
+    subst (λ (seat : SeatState). TakesNext heard keys seat)
+    (sym (get_or-map-range_with_len (seat_at net (rounds_of net t)) 0 (length (honest_stations net)) k k d place (omega arith))) here
 
 pub seats_taken : (net : Net) (t : ℕ) (heard : List (List ℕ)) → IsChecked net → t < net.words → heard ≡ flat_map (heard_row net) (rounds_of net (t + 1))
     → map (with_heard heard) (seats_after net (rounds_of net t)) ≡ seats_after net (rounds_of net (t + 1))

@@ -4,10 +4,8 @@ use Rattle.dc_spec.specs.Words.{zero_word, word_add}
 use Rattle.dc_key_rules.specs.PairKeys.{key_part}
 use Rattle.dc_station_rules.specs.Stations.{plain_word}
 use Rattle.dc_net_rules.specs.Runs.{station_word}
-use Rattle.dc_spec.specs.Pads.{Keys}
 use Rattle.dc_station.specs.State.{ReceiverState, SenderState, IsSenderOf}
 use Rattle.dc_station.specs.StandsFor.{ReceiverStandsFor, SenderStandsFor}
-use Rattle.dc_net.specs.KeyPart.{KeyState, KeyStandsFor}
 use Rattle.dc_net.specs.Seat.{SeatState, SeatStandsFor, seat_word, HearsNext, with_heard}
 use Rattle.dc_net.proofs.Columns.{column_more}
 
@@ -21,15 +19,15 @@ with_word heard seat w next is =
     ∙ ap (λ (x : List ℕ). seat.received ++ x ∷ []) (sym (is ∙ ap (λ (i : ℕ). get_or heard i zero_word) place))
 
 -- each part has taken the word
-pub SeatStandsFor-more : (heard : List (List ℕ)) (seat : SeatState) (w : List ℕ) (r receiver : ReceiverState) (s sender : SenderState) (k part : KeyState)
+pub SeatStandsFor-more : (heard : List (List ℕ)) (seat : SeatState) (w : List ℕ) (r receiver : ReceiverState) (s sender : SenderState) (k key : List ℕ)
     → SeatStandsFor r s k seat → HearsNext heard seat → w ≡ get_or heard (length heard - seat.seats + seat.place) zero_word
     → ((total : ℕ) (words : List (List ℕ)) → ReceiverStandsFor r total words → ReceiverStandsFor receiver total (words ++ w ∷ []))
     → IsSenderOf sender seat.stream
     → ((total : ℕ) (words : List (List ℕ)) (word : List ℕ) → SenderStandsFor s seat.stream total words → ReceiverStandsFor receiver total (words ++ word ∷ [])
     → SenderStandsFor sender seat.stream total (words ++ word ∷ []))
-    → ((keys : Keys) (station : ℕ) (received : List (List ℕ)) → KeyStandsFor k keys station received → KeyStandsFor part keys station (received ++ w ∷ []))
-    → SeatStandsFor receiver sender part (with_heard heard seat)
-SeatStandsFor-more heard seat w r receiver s sender k part stands next is takes own sends keyed =
+    → (length (with_heard heard seat).received < seat.keys.words → key ≡ key_part seat.keys.pairs seat.station (with_heard heard seat).received)
+    → SeatStandsFor receiver sender key (with_heard heard seat)
+SeatStandsFor-more heard seat w r receiver s sender k key stands next is takes own sends keyed =
     let e = sym (with_word heard seat w next is) in
     let receives : ReceiverStandsFor receiver seat.keys.words (seat.received ++ w ∷ []) = takes seat.keys.words seat.received stands.receives in
     record {
@@ -37,7 +35,7 @@ SeatStandsFor-more heard seat w r receiver s sender k part stands next is takes 
       sends = subst (λ (xs : List (List ℕ)). SenderStandsFor sender seat.stream seat.keys.words xs) e
           (sends seat.keys.words seat.received w stands.sends receives);
       own = own;
-      keyed = subst (λ (xs : List (List ℕ)). KeyStandsFor part seat.keys seat.station xs) e (keyed seat.keys seat.station seat.received stands.keyed);
+      keyed = keyed;
     }
 
 -- before the end of the session the word is the plain word and the keys

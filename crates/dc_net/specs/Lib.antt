@@ -4,6 +4,8 @@ pub mod Walks
 pub mod Stations
 pub mod Tests
 pub mod KeyPart
+pub mod KeyStrip
+pub mod RoundKeys
 pub mod Seat
 pub mod WordList
 pub mod Rows

@@ -1,5 +1,5 @@
 -- A run round by round: the seats of the honest stations, and what is recorded.
-use Rattle.std.specs.Prelude.{ℕ, ◌+◌, ◌*◌, ◌≡◌, if◌then◌else◌, List, ◌++◌, length, map, flat_map, slice_index, All}
+use Rattle.std.specs.Prelude.{ℕ, ◌+◌, ◌*◌, ◌≡◌, ◌<◌, if◌then◌else◌, List, ◌++◌, length, map, flat_map, slice_index, All}
 use Rattle.std.specs.List.{range_with_len}
 use Rattle.dc_spec.specs.Words.{zero_word}
 use Rattle.dc_spec.specs.Lists.{is_among}
@@ -7,6 +7,7 @@ use Rattle.dc_spec.specs.Scripts.{Said, each, delivered_words, stations_of, Turn
 use Rattle.dc_spec.specs.Net.{Net}
 use Rattle.dc_net_rules.specs.Runs.{Round, word_of_station, station_stream, honest_stations, history, published, station_word}
 use Rattle.dc_net.specs.Rows.{members_of, IsWithin}
+use Rattle.dc_net.specs.RoundKeys.{RoundKeysState, KeysAt}
 use Rattle.dc_net.specs.Seat.{SeatState}
 use Rattle.dc_net.specs.declared.book.Book.{Book}
 
@@ -26,6 +27,14 @@ seat_at net played j =
 -- the seats of all honest stations
 abbrev pub seats_after : Net → List Round → List SeatState
 seats_after net played = map (seat_at net played) (range_with_len 0 (length (honest_stations net)))
+
+-- the keys of all honest stations after these rounds, by their places among them
+pub record AreKeyed (net : Net) (played : List Round) (keys : RoundKeysState) : Type 0 where
+  pub places : keys.places ≡ length (honest_stations net)
+  pub taken : keys.taken ≡ length played
+  pub total : keys.total ≡ net.words
+  pub each : (j : ℕ) → j < length (honest_stations net)
+      → KeysAt keys j net.keys (slice_index (honest_stations net) j) (history played (slice_index (honest_stations net) j))
 
 -- the words that the honest stations received in a round
 abbrev pub heard_row : Net → Round → List (List ℕ)

@@ -6,7 +6,8 @@ use Rattle.dc_spec.specs.Pads.{Keys}
 use Rattle.dc_net_rules.specs.Runs.{station_word}
 use Rattle.dc_station.specs.State.{ReceiverState, SenderState, IsSenderOf}
 use Rattle.dc_station.specs.StandsFor.{ReceiverStandsFor, SenderStandsFor}
-use Rattle.dc_net.specs.KeyPart.{KeyState, KeyStandsFor}
+use Rattle.dc_key_rules.specs.PairKeys.{key_part}
+use Rattle.dc_net.specs.RoundKeys.{RoundKeysState, KeysAt}
 use Rattle.dc_net.specs.WordList.{column}
 
 -- a station's stream, the pads of the net, its number, the words that it received, and its place
@@ -19,12 +20,13 @@ pub record SeatState : Type 0 where
   pub place : ℕ
   pub seats : ℕ
 
--- the parts of a seat stand for its stream, its pads and the words that it received
-pub record SeatStandsFor (receiver : ReceiverState) (sender : SenderState) (part : KeyState) (seat : SeatState) : Type 0 where
+-- the parts of a seat stand for its stream, its pads and the words that it received; where there is
+-- a round more, it has what its keys add to its word
+pub record SeatStandsFor (receiver : ReceiverState) (sender : SenderState) (key : List ℕ) (seat : SeatState) : Type 0 where
   pub receives : ReceiverStandsFor receiver seat.keys.words seat.received
   pub sends : SenderStandsFor sender seat.stream seat.keys.words seat.received
   pub own : IsSenderOf sender seat.stream
-  pub keyed : KeyStandsFor part seat.keys seat.station seat.received
+  pub keyed : length seat.received < seat.keys.words → key ≡ key_part seat.keys.pairs seat.station seat.received
 
 -- the word of a seat; after the last round of the session it is the zero word
 abbrev pub seat_word : SeatState → List ℕ
@@ -45,3 +47,8 @@ pub record HearsNext (heard : List (List ℕ)) (seat : SeatState) : Type 0 where
 -- the seat with the word of the last round
 abbrev pub with_heard : List (List ℕ) → SeatState → SeatState
 with_heard heard seat = record seat { received = column seat.seats seat.place heard }
+
+-- the word of the last round is there, and the keys at the seat's place have taken it
+pub record TakesNext (heard : List (List ℕ)) (keys : RoundKeysState) (seat : SeatState) : Type 0 where
+  pub hears : HearsNext heard seat
+  pub keyed : KeysAt keys seat.place seat.keys seat.station (with_heard heard seat).received

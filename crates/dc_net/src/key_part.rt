@@ -1,4 +1,4 @@
-//! What the keys of a station add to its next word.
+//! What the keys of a station add to its next word, by its mask.
 
 ghost use Rattle.std.specs.Prelude.{◌≡◌, ◌<◌, ◌+◌, ◌∷◌, ◌++◌, [], ℕ, List, IfOk};
 ghost use Rattle.dc_spec.specs.Pads.{Keys};
@@ -50,7 +50,9 @@ impl KeyPart {
     /// Takes the word that the station received. Takes no memory.
     pub fn take(&mut self, w: &Word)
         requires { self.old.taken < self.old.total }
-        ensures { (keys : Keys) (station : ℕ) (received : List (List ℕ)) →
+        ensures taken { self.new.taken ≡ self.old.taken + 1 }
+        ensures total { self.new.total ≡ self.old.total }
+        ensures stands { (keys : Keys) (station : ℕ) (received : List (List ℕ)) →
             KeyStandsFor self.old keys station received →
             KeyStandsFor self.new keys station (received ++ w.now ∷ []) }
     {

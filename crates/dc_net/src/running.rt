@@ -1,19 +1,20 @@
 //! The run of a net.
 
-ghost use Rattle.std.specs.Prelude.{◌≡◌, ◌+◌, ◌<◌, ◌≤◌, IfOk, length, map};
+ghost use Rattle.std.specs.Prelude.{◌≡◌, ◌+◌, ◌<◌, ◌≤◌, [], IfOk, length, map};
 ghost use Rattle.std.specs.List.Sorted.{IsStrictlyIncreasing};
 ghost use Rattle.dc_formats.specs.ScriptFile.{IsScript};
 ghost use Rattle.dc_station_rules.specs.Stations.{log_of, pending_counts, sent_of};
 ghost use Rattle.dc_net_rules.specs.Runs.{honest_stations, script_turn, rounds_of, run_of};
 ghost use Rattle.dc_net.specs.Checked.{IsChecked};
-ghost use Rattle.dc_net.specs.Run.{IsRecorded, IsPlayable, seats_after};
+ghost use Rattle.dc_net.specs.Run.{IsRecorded, IsPlayable, AreKeyed, seats_after};
 
 use crate::book::Book;
 use crate::checked_net::CheckedNet;
 use crate::net::Net;
 use crate::played::{Logs, Pendings, Played};
+use crate::round_keys::RoundKeys;
 use crate::seat::Seat;
-use crate::seating::{honest_count, seats_of, take_all};
+use crate::seating::{honest_list, seats_of, take_all};
 use dc_edge::Gate;
 use dc_field::NoMemory;
 use dc_workers::map_words;
@@ -35,11 +36,25 @@ pub fn run<R: Threads + Sync, G: Gate + Sync>(
     ensures { IfOk result (λ played. played ≡ run_of net.now) }
 {
     let net = net.net();
-    let count = honest_count(net);
-    let mut book = Book::start(alloc, net, count)?;
-    let mut seats = seats_of(alloc, net, count, &book.delivered)?;
-    play(rt, alloc, net, workers, gate, &mut seats, &mut book)?;
+    let honest = honest_list(alloc, net)?;
+    let mut book = Book::start(alloc, net, honest.len())?;
+    let mut keys = keys_of(alloc, net, honest.as_slice())?;
+    let mut seats = seats_of(alloc, net, honest.len(), &keys, &book.delivered)?;
+    play(
+        rt, alloc, net, workers, gate, &mut keys, &mut seats, &mut book,
+    )?;
     finished(alloc, seats, book)
+}
+
+/// The keys of the honest stations before the first round.
+fn keys_of(alloc: Global, net: &Net, honest: &[u16]) -> Result<RoundKeys, NoMemory>
+    requires checked { IsChecked net.now }
+    requires honest { honest.now ≡ honest_stations net.now }
+    requires few { length honest.now ≤ 65535 }
+    ensures { IfOk result (AreKeyed net.now []) }
+{
+    let keys = RoundKeys::start(alloc, &net.keys, honest)?;
+    Ok(keys)
 }
 
 /// Plays all rounds.
@@ -49,12 +64,14 @@ fn play<R: Threads + Sync, G: Gate + Sync>(
     net: &Net,
     workers: u32,
     gate: &G,
+    keys: &mut RoundKeys,
     seats: &mut [Seat],
     book: &mut Book,
 ) -> Result<(), NoMemory>
     requires some { 1 ≤ workers }
     requires most { workers ≤ 64 }
     requires checked { IsChecked net.now }
+    requires keyed { AreKeyed net.now (rounds_of net.now 0) keys.old }
     requires seats { seats.old ≡ seats_after net.now (rounds_of net.now 0) }
     requires recorded { IsRecorded net.now (rounds_of net.now 0) book.old }
     ensures seats { IfOk result (λ _.
@@ -63,13 +80,13 @@ fn play<R: Threads + Sync, G: Gate + Sync>(
         IsRecorded net.now (rounds_of net.now net.now.words) book.new) }
 {
     for round in 0..net.words {
-        play_round(rt, alloc, net, workers, gate, round, seats, book)?;
+        play_round(rt, alloc, net, workers, gate, round, keys, seats, book)?;
     }
     Ok(())
 }
 
 /// Plays one round: the words of the honest stations, the words of all stations with their sum and
-/// what is delivered, and then each honest station takes its word.
+/// what is delivered, and then the keys and each honest station take the words received.
 fn play_round<R: Threads + Sync, G: Gate + Sync>(
     rt: &R,
     alloc: Global,
@@ -77,6 +94,7 @@ fn play_round<R: Threads + Sync, G: Gate + Sync>(
     workers: u32,
     gate: &G,
     round: u16,
+    keys: &mut RoundKeys,
     seats: &mut [Seat],
     book: &mut Book,
 ) -> Result<(), NoMemory>
@@ -84,8 +102,10 @@ fn play_round<R: Threads + Sync, G: Gate + Sync>(
     requires most { workers ≤ 64 }
     requires checked { IsChecked net.now }
     requires round { round < net.now.words }
+    requires keyed { AreKeyed net.now (rounds_of net.now round) keys.old }
     requires seats { seats.old ≡ seats_after net.now (rounds_of net.now round) }
     requires recorded { IsRecorded net.now (rounds_of net.now round) book.old }
+    ensures keyed { IfOk result (λ _. AreKeyed net.now (rounds_of net.now (round + 1)) keys.new) }
     ensures seats { IfOk result (λ _.
         seats.new ≡ seats_after net.now (rounds_of net.now (round + 1))) }
     ensures recorded { IfOk result (λ _.
@@ -94,7 +114,9 @@ fn play_round<R: Threads + Sync, G: Gate + Sync>(
     note_script(net);
     let honest = map_words(rt, alloc, seats, workers, gate)?;
     book.record(net, round, honest.as_slice(), seats.len());
-    take_all(rt, workers, seats, &book.delivered);
+    let heard = book.delivered.as_slice();
+    keys.take(rt, workers, &heard[heard.len() - seats.len()..]);
+    take_all(seats, &book.delivered, keys);
     Ok(())
 }
 

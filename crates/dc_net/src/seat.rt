@@ -1,10 +1,11 @@
 //! An honest station in a run.
 
 ghost use Rattle.std.specs.Prelude.{◌≡◌, [], ℕ, IfOk, ◌<◌, ◌≤◌};
+ghost use Rattle.dc_key_rules.specs.PairKeys.{key_part};
 ghost use Rattle.dc_station_rules.specs.Stations.{log_of, pending_counts, sent_of};
-ghost use Rattle.dc_net.specs.Seat.{seat_word, HearsNext, with_heard};
+ghost use Rattle.dc_net.specs.Seat.{seat_word, TakesNext, with_heard};
 
-use crate::key_part::KeyPart;
+use crate::round_keys::RoundKeys;
 use crate::word_list::WordList;
 use dc_field::{NoMemory, Word};
 use dc_keys::KeyFile;
@@ -27,7 +28,8 @@ pub struct Seat<'n> {
     seats: usize,
     receiver: Receiver,
     sender: Sender,
-    keys: KeyPart,
+    /// What its keys add to its next word, where there is a round more.
+    key: Word,
     heard: Snapshot<WordList>,
 }
 
@@ -46,7 +48,7 @@ impl<'n> Model for Seat<'n> {
       seats = s.seats;
     } };
 
-    ghost invariant = { λ s. SeatStandsFor s.receiver s.sender s.keys (record {
+    ghost invariant = { λ s. SeatStandsFor s.receiver s.sender s.key (record {
       stream = s.stream.now;
       keys = s.file.now;
       station = s.station;
@@ -57,8 +59,9 @@ impl<'n> Model for Seat<'n> {
 }
 
 impl<'n> Seat<'n> {
-    /// The seat of a station before the first round, at a place among so many honest stations. It
-    /// takes all memory of the session; the list of words received is empty.
+    /// The seat of a station before the first round, at a place among so many honest stations, with
+    /// what its keys add to its first word. It takes all memory of the session; the list of words
+    /// received is empty.
     pub fn start(
         alloc: Global,
         file: &'n KeyFile,
@@ -66,9 +69,11 @@ impl<'n> Seat<'n> {
         station: u16,
         place: usize,
         seats: usize,
+        key: Word,
         heard: &WordList,
     ) -> Result<Seat<'n>, NoMemory>
-        requires { heard.now.words ≡ [] }
+        requires key { 0 < file.now.words → key ≡ key_part file.now.pairs station [] }
+        requires heard { heard.now.words ≡ [] }
         ensures { IfOk result (λ seat. seat ≡ record {
           stream = stream.now;
           keys = file.now;
@@ -80,7 +85,6 @@ impl<'n> Seat<'n> {
     {
         let receiver = Receiver::start(alloc, file.words)?;
         let sender = Sender::start(alloc, file.words)?;
-        let keys = KeyPart::start(alloc, file, station)?;
         Ok(Seat {
             stream,
             file,
@@ -89,21 +93,21 @@ impl<'n> Seat<'n> {
             seats,
             receiver,
             sender,
-            keys,
+            key,
             heard: Snapshot::of(heard),
         })
     }
 
-    /// Takes the word of the last round. Takes no memory.
-    pub fn take(&mut self, heard: &WordList)
-        requires { HearsNext heard.now.words self.old }
+    /// Takes the word of the last round, which the keys have taken already. Takes no memory.
+    pub fn take(&mut self, heard: &WordList, keys: &RoundKeys)
+        requires { TakesNext heard.now.words keys.now self.old }
         ensures { self.new ≡ with_heard heard.now.words self.old }
     {
         let words = heard.as_slice();
         let w = words[words.len() - self.seats + self.place];
         self.receiver.receive(&w);
         self.sender.take(self.stream, &self.receiver);
-        self.keys.take(&w);
+        self.key = keys.word(self.place);
         self.heard = Snapshot::of(heard);
     }
 
@@ -154,7 +158,7 @@ impl Piece for Seat<'_> {
         let file = self.file;
         if self.receiver.received() < file.words {
             let plain = self.sender.plain(self.stream, &self.receiver);
-            plain.add(&self.keys.word())
+            plain.add(&self.key)
         } else {
             Word::zero()
         }

@@ -8,6 +8,8 @@ mod check_tests;
 #[cfg(test)]
 mod file_tests;
 #[cfg(test)]
+mod long_tests;
+#[cfg(test)]
 mod run_tests;
 #[cfg(test)]
 mod trial_tests;

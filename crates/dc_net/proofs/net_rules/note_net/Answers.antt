@@ -1,4 +1,4 @@
-use Rattle.std.proofs.Common.{◌≡◌, ◌∙◌, ap, subst}
+use Rattle.std.proofs.Common.{◌∙◌, ap, subst}
 use Rattle.std.specs.List.{All}
 use Rattle.dc_spec.specs.Net.{Net}
 use Rattle.dc_net.specs.Checked.{KeepsStream}

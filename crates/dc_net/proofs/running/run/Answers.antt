@@ -5,13 +5,17 @@ use Rattle.std.proofs.lemmas.List.{with_items_is}
 use Rattle.dc_spec.specs.Net.{Run}
 use Rattle.dc_net_rules.specs.Runs.{Round, run_of}
 use Rattle.dc_net_rules.proofs.RoundLemmas.{rounds_none}
-use Rattle.dc_net.specs.Run.{IsRecorded, seats_after}
+use Rattle.dc_net.specs.Run.{IsRecorded, AreKeyed, seats_after}
 use Rattle.dc_net.proofs.RunIs.{run_is}
 use Rattle.dc_net.proofs.running.run.Goals as goal
 
 pub play-requires-clause-seats : goal.play-requires-clause-seats
 play-requires-clause-seats g c = λ κs lives. c.deref_mut.ensures.value ∙ c.in_ok-seats.ensures
     ∙ ap (λ (played : List Round). seats_after c.net-net.result.now played) (sym (rounds_none c.net-net.result.now))
+
+pub play-requires-clause-keyed : goal.play-requires-clause-keyed
+play-requires-clause-keyed g c = λ κs lives. subst (λ (played : List Round). AreKeyed c.net-net.result.now played c.in_ok-keys.keys)
+    (sym (rounds_none c.net-net.result.now)) c.in_ok-keys.ensures
 
 pub play-requires-clause-recorded : goal.play-requires-clause-recorded
 play-requires-clause-recorded g c = λ κs lives. subst (λ (played : List Round). IsRecorded c.net-net.result.now played c.in_ok-book.book)

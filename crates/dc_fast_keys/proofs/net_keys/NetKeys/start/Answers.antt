@@ -1,4 +1,4 @@
-use Rattle.std.proofs.Common.{◌*◌, ◌^◌, ◌≤◌, length, get_or, refl, arith}
+use Rattle.std.proofs.Common.{◌≡◌, ◌+◌, ◌*◌, ◌^◌, ◌≤◌, length, get_or, refl, arith}
 use Rattle.std.proofs.Math.Nat.{mul-le-mul_left}
 use Rattle.dc_fast_keys.specs.NetKeys.{KeysState}
 use Rattle.dc_fast_keys.proofs.StepLemmas.{StandsFor-none, level-size}
@@ -19,6 +19,8 @@ invariant_of-result c = record {
   work_long = λ q lt.
       let e = level-size (length c.args.pads.now) q (2 ^ q) refl in
       let le : length c.args.pads.now * (32 * 2 ^ q) ≤ length c.args.pads.now * (32 * c.from-words.result) = mul-le-mul_left (length c.args.pads.now) (omega arith) in
+      let one = level-size 1 q (2 ^ q) refl in
+      let all : (length c.args.pads.now + 1) * (32 * c.from-words.result) ≡ length c.args.pads.now * (32 * c.from-words.result) + 32 * c.from-words.result = omega arith in
       omega (arith, c.in_ok-work.ensures.long);
 }
 

@@ -19,7 +19,7 @@ more m mask keys station received w same takes stands =
       stands = next;
     }
 
-pub returns : goal.returns
-returns c = λ keys station received stands.
+pub returns-clause-stands : goal.returns-clause-stands
+returns-clause-stands c = λ keys station received stands.
     more c.self.inside.mask c.take.new.self keys station received c.args.w.now c.take.ensures.same_pads c.take.ensures.stands
     (subst (λ (k : KeyState). KeyStandsFor k keys station received) (sym c.self.view_is) stands)

@@ -18,7 +18,7 @@ returns-then-received-file c =
     let stands = c.self.invariant in
     let words : c.file.inside.words ≡ seat.keys.words = ap (λ (k : Keys). k.words) c.file.view_is in
     let within : length seat.received < seat.keys.words = omega (arith, c.received.ensures.received, stands.receives.counted) in
-    word_of_seat seat c.plain-plain.result c.word.result c.add.result within
+    word_of_seat seat c.plain-plain.result c.self.inside.key c.add.result within
     (c.plain-plain.ensures seat.keys.words seat.received stands.sends stands.receives)
-    (c.word.ensures seat.keys seat.station seat.received stands.keyed) c.add.ensures
+    (stands.keyed within) c.add.ensures
     ∙ ap seat_word c.self.view_is

@@ -1,7 +1,7 @@
 use Rattle.std.proofs.Common.{slice_set, sym, ap, ◌∙◌}
 use Rattle.std.proofs.lemmas.List.Edits.{map_over_more}
 use Rattle.dc_net.specs.Seat.{SeatState, with_heard}
-use Rattle.dc_net.proofs.seating.take_in_turn.Goals as goal
+use Rattle.dc_net.proofs.seating.take_all.Goals as goal
 
 pub loop-seat-preserved : goal.loop-seat-preserved
 loop-seat-preserved c =
