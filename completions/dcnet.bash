@@ -1,5 +1,5 @@
 # Completion of dcnet for bash: `source completions/dcnet.bash`.
-_dcnet_words="sum keygen migrate replay logs twin steer trial --seeds --workers"
+_dcnet_words="sum keygen migrate replay logs twin steer station hub trial --seeds --workers"
 
 _dcnet() {
     local current=${COMP_WORDS[COMP_CWORD]}

@@ -26,9 +26,9 @@ use Rattle.dc_cli.specs.declared.outcome.CommandFault.{CommandFault}
 use Rattle.dc_cli.specs.declared.outcome.FileFault.{FileFault}
 use Rattle.dc_cli.specs.declared.outcome.FileFault.TheVariants as kinds
 use Rattle.dc_cli.specs.declared.outcome.Outcome.{Outcome}
-use Rattle.dc_cli.specs.declared.outcome.Outcome.TheVariants.{Done, Usage, Missing, TooLong, Malformed, Refused, ShelfFault, SinkFault, NoMemory}
+use Rattle.dc_cli.specs.declared.outcome.Outcome.TheVariants.{Done, Usage, Missing, TooLong, Malformed, Refused, ShelfFault, SinkFault, WireFault, Peer, NoMemory}
 use Rattle.dc_cli.proofs.ShelfLemmas.{told_bytes, held_is_there, held_within, others_since, others_of_all, AskedUpTo, asked_first, asked_none, asked_whole, asked_two, LastAsked}
-use Rattle.dc_cli.proofs.ReplayLemmas.{Ended-kept, NetRan-kept, NetRan-usage, NetRan-missing, NetRan-long, NetRan-last, NetRan-transcript, NetRan-shelf_rose, NetRan-asked, refuses_not}
+use Rattle.dc_cli.proofs.ReplayLemmas.{Ended-kept, NetRan-kept, NetRan-usage, NetRan-missing, NetRan-long, NetRan-last, NetRan-transcript, NetRan-shelf_rose, NetRan-asked, refuses_not, refusal_no_wire}
 
 -- a net that was not read, as at a command that prints the view of its run
 refused_ran : (source : List ℕ) (s s' : ShelfState) (o o' : SinkState) (refusal : NotRead) → o' ≡ o → ReadsNet source s s' (Err refusal)
@@ -46,12 +46,14 @@ BeforeNet-ran source s s' o o' outcome p =
     subst P (sym p.refuses.outcome_is) (refused_ran source s s' o o' p.refuses.refusal p.silent p.refuses.reads)
 
 -- whether an outcome may be that of a net that was not read
-ends_before : Outcome → Bool
+unfoldable pub ends_before : Outcome → Bool
 ends_before Done = false
 ends_before (Usage place) = false
 ends_before (Malformed name (kinds.List fault)) = false
 ends_before (Refused fault) = false
 ends_before SinkFault = false
+ends_before WireFault = false
+ends_before (Peer who fault) = false
 ends_before _ = true
 
 ends_by_file : (name : List ℕ) (fault : NetFileFault) → ends_before (Malformed name (file_fault_of fault)) ≡ true
@@ -61,7 +63,7 @@ ends_by_file name (sources.Keys fault) = refl
 ends_by_file name (sources.Stream fault) = refl
 ends_by_file name (sources.Script fault) = refl
 
-ends_by : (refusal : NotRead) → ends_before (outcome_of refusal) ≡ true
+pub ends_by : (refusal : NotRead) → ends_before (outcome_of refusal) ≡ true
 unfolding ends_before
 ends_by (refusals.Missing name) = refl
 ends_by (refusals.TooLong name) = refl
@@ -84,6 +86,12 @@ AltersOf-usage source m s s' o o' place p = elim p [
   | inr a ↦ a.alters
 ]
 
+pub AltersOf-no_wire : (source : List ℕ) (m : Alteration) (s s' : ShelfState) (o o' : SinkState) → AltersOf source m s s' o o' WireFault → ⊥
+AltersOf-no_wire source m s s' o o' p = elim p [
+  | inl b ↦ refusal_no_wire b.refuses.refusal b.refuses.outcome_is
+  | inr a ↦ a.alters
+]
+
 -- the names that are written may change, no other name does
 AltersNet-leaves : (m : Alteration) (net : Net) (s s' : ShelfState) (o o' : SinkState) (outcome : Outcome) → AltersNet m net s s' o o' outcome → LeavesAltered m.target outcome s s'
 AltersNet-leaves m net s s' o o' Done p = others_since m.target s p.written.between s' p.written.list.read.kept p.written.write.others
@@ -102,7 +110,7 @@ LeavesAltered-since target SinkFault s0 s1 s2 kept p = others_since target s0 s1
 LeavesAltered-since target ShelfFault s0 s1 s2 kept p = others_since target s0 s1 s2 kept p
 LeavesAltered-since target _ s0 s1 s2 kept p = p ∙ kept
 
-LeavesAltered-all : (target : List ℕ) (outcome : Outcome) (s s' : ShelfState) → s'.holds ≡ s.holds → LeavesAltered target outcome s s'
+pub LeavesAltered-all : (target : List ℕ) (outcome : Outcome) (s s' : ShelfState) → s'.holds ≡ s.holds → LeavesAltered target outcome s s'
 LeavesAltered-all target Done s s' kept = others_of_all target s s' kept
 LeavesAltered-all target SinkFault s s' kept = others_of_all target s s' kept
 LeavesAltered-all target ShelfFault s s' kept = others_of_all target s s' kept

@@ -5,11 +5,11 @@ use Rattle.std.specs.String.{string_bytes}
 use Rattle.std.specs.Str.{bytes_eq}
 use Rattle.std.proofs.lemmas.List.{take_all}
 use Rattle.std.proofs.lemmas.Slice.Eq.{bytes_eq-Decides}
-use Rattle.dc_spec.specs.Limits.{most_stations}
-use Rattle.dc_cli.specs.Forms.{Slot, literal, name, number, number_between, fits, keygen_slots, seeds_slots, twin_slots, second_slots, ends_slots, steer_slots, workers_slots, stations_in, words_slots, stations_slots, trial_slots, is_name, texts, begun, spells, is_form, longest_begun}
-use Rattle.dc_cli.specs.Commands.{said, SpellsWords, ReadsAs, ReadsAsFile, ReadsAsKeygen, ReadsAsMigrate, ReadsAsLogs, ReadsAsTwin, ReadsAsSteer, ReadsAsEnds, ReadsAsSecond, ReadsAsWanted, ReadsAsReplay, ReadsAsTrial, ReadsAsStations, ReadsAsWords, FitsNot, ReadsAsWorkers, ReadsAsCount}
+use Rattle.dc_spec.specs.Limits.{most_stations, most_words}
+use Rattle.dc_cli.specs.Forms.{Slot, literal, name, number, number_between, fits, keygen_slots, seeds_slots, twin_slots, second_slots, ends_slots, steer_slots, player_slots, station_slots, length_slots, hosted_slots, hub_slots, workers_slots, stations_in, words_slots, stations_slots, trial_slots, is_name, texts, begun, spells, is_form, longest_begun}
+use Rattle.dc_cli.specs.Commands.{said, SpellsWords, ReadsAs, ReadsAsFile, ReadsAsKeygen, ReadsAsMigrate, ReadsAsLogs, ReadsAsTwin, ReadsAsSteer, ReadsAsEnds, ReadsAsSecond, ReadsAsWanted, ReadsAsStation, ReadsAsPlayer, ReadsAsFiles, ReadsAsHub, ReadsAsHosted, ReadsAsLength, ReadsAsTarget, ReadsAsReplay, ReadsAsTrial, ReadsAsStations, ReadsAsWords, FitsNot, ReadsAsWorkers, ReadsAsCount}
 use Rattle.dc_cli.specs.declared.command.Command.{Command}
-use Rattle.dc_cli.specs.declared.command.Command.TheVariants.{Sum, Keygen, KeygenSeeds, Migrate, Replay, Logs, Twin, Steer, Trial}
+use Rattle.dc_cli.specs.declared.command.Command.TheVariants.{Sum, Keygen, KeygenSeeds, Migrate, Replay, Logs, Twin, Steer, Station, Hub, Trial}
 
 -- the first word and the others
 pub texts-front : {A : Type 0} (xs : List (String A)) (d : String A) → 1 ≤ length xs → texts xs ≡ string_bytes (get_or xs 0 d) ∷ texts (take (length xs - 1) (drop 1 xs))
@@ -28,8 +28,8 @@ texts_differ word due other = not_true (bytes_eq word due) (λ same. other ((byt
 
 -- words that begin with another word are not a form
 pub other_word : (verb : List ℕ) (rest : List (List ℕ)) → verb ≢ codes "sum" → verb ≢ codes "keygen" → verb ≢ codes "migrate" → verb ≢ codes "replay" → verb ≢ codes "logs"
-    → verb ≢ codes "twin" → verb ≢ codes "steer" → verb ≢ codes "trial" → (is_form (verb ∷ rest) ≡ false) × (0 ≡ longest_begun (verb ∷ rest))
-other_word verb rest not_sum not_keygen not_migrate not_replay not_logs not_twin not_steer not_trial =
+    → verb ≢ codes "twin" → verb ≢ codes "steer" → verb ≢ codes "station" → verb ≢ codes "hub" → verb ≢ codes "trial" → (is_form (verb ∷ rest) ≡ false) × (0 ≡ longest_begun (verb ∷ rest))
+other_word verb rest not_sum not_keygen not_migrate not_replay not_logs not_twin not_steer not_station not_hub not_trial =
     let sum = texts_differ verb (codes "sum") not_sum in
     let keygen = texts_differ verb (codes "keygen") not_keygen in
     let migrate = texts_differ verb (codes "migrate") not_migrate in
@@ -37,8 +37,10 @@ other_word verb rest not_sum not_keygen not_migrate not_replay not_logs not_twin
     let logs = texts_differ verb (codes "logs") not_logs in
     let twin = texts_differ verb (codes "twin") not_twin in
     let steer = texts_differ verb (codes "steer") not_steer in
+    let station = texts_differ verb (codes "station") not_station in
+    let hub = texts_differ verb (codes "hub") not_hub in
     let trial = texts_differ verb (codes "trial") not_trial in
-    (rw (sum, keygen, migrate, replay, logs, twin, steer, trial) refl, rw (sum, keygen, migrate, replay, logs, twin, steer, trial) refl)
+    (rw (sum, keygen, migrate, replay, logs, twin, steer, station, hub, trial) refl, rw (sum, keygen, migrate, replay, logs, twin, steer, station, hub, trial) refl)
 
 -- an empty command line is not a form
 pub no_words : {A : Type 0} (xs : List (String A)) → length xs < 1 → (is_form (texts xs) ≡ false) × (0 ≡ longest_begun (texts xs))
@@ -80,80 +82,39 @@ as_far_of_two k m n le = zeros k (max (max 0 (suc m)) (suc n)) ∙ (let e : max 
 -- the words after `sum`, read as its file, make the command
 pub ReadsAs-sum : (words : List (List ℕ)) (r : Result Command ℕ) → ReadsAsFile words r → ReadsAs (codes "sum" ∷ words) r
 ReadsAs-sum words (Ok (Sum file)) p = (ap (λ (ws : List (List ℕ)). codes "sum" ∷ ws) p.0, p.1)
-ReadsAs-sum words (Ok (Keygen seed net target)) p = absurd p
-ReadsAs-sum words (Ok (KeygenSeeds seed net target)) p = absurd p
-ReadsAs-sum words (Ok (Migrate keys target)) p = absurd p
-ReadsAs-sum words (Ok (Twin net perm target)) p = absurd p
-ReadsAs-sum words (Ok (Steer net u v wanted target)) p = absurd p
-ReadsAs-sum words (Ok (Replay net workers)) p = absurd p
-ReadsAs-sum words (Ok (Logs net)) p = absurd p
-ReadsAs-sum words (Ok (Trial seed stations count workers)) p = absurd p
-ReadsAs-sum words (Err place) p = (rw p.0 refl, p.1 ∙ sym (as_far 10 (begun (name ∷ []) words)))
+ReadsAs-sum words (Ok _) p = absurd p
+ReadsAs-sum words (Err place) p = (rw p.0 refl, p.1 ∙ sym (as_far 12 (begun (name ∷ []) words)))
 
 -- the words after `keygen`, read as its seed, its names and its flag, make the command
 pub ReadsAs-keygen : (words : List (List ℕ)) (r : Result Command ℕ) → ReadsAsKeygen words r → ReadsAs (codes "keygen" ∷ words) r
 ReadsAs-keygen words (Ok (Keygen seed net target)) p = (words, refl, p)
 ReadsAs-keygen words (Ok (KeygenSeeds seed net target)) p = (words, refl, p)
-ReadsAs-keygen words (Ok (Sum file)) p = absurd p
-ReadsAs-keygen words (Ok (Migrate keys target)) p = absurd p
-ReadsAs-keygen words (Ok (Twin net perm target)) p = absurd p
-ReadsAs-keygen words (Ok (Steer net u v wanted target)) p = absurd p
-ReadsAs-keygen words (Ok (Replay net workers)) p = absurd p
-ReadsAs-keygen words (Ok (Logs net)) p = absurd p
-ReadsAs-keygen words (Ok (Trial seed stations count workers)) p = absurd p
+ReadsAs-keygen words (Ok _) p = absurd p
 ReadsAs-keygen words (Err place) p =
-    (rw (p.0, p.1) refl, p.2 ∙ sym (as_far_of_two 8 (begun keygen_slots words) (begun seeds_slots words) (begun_more keygen_slots (literal (codes "--seeds") ∷ []) words)))
+    (rw (p.0, p.1) refl, p.2 ∙ sym (as_far_of_two 10 (begun keygen_slots words) (begun seeds_slots words) (begun_more keygen_slots (literal (codes "--seeds") ∷ []) words)))
 
 -- the words after `migrate`, read as its names, make the command
 pub ReadsAs-migrate : (words : List (List ℕ)) (r : Result Command ℕ) → ReadsAsMigrate words r → ReadsAs (codes "migrate" ∷ words) r
 ReadsAs-migrate words (Ok (Migrate keys target)) p = (ap (λ (ws : List (List ℕ)). codes "migrate" ∷ ws) p.0, p.1, p.2)
-ReadsAs-migrate words (Ok (Twin net perm target)) p = absurd p
-ReadsAs-migrate words (Ok (Steer net u v wanted target)) p = absurd p
-ReadsAs-migrate words (Ok (Sum file)) p = absurd p
-ReadsAs-migrate words (Ok (Keygen seed net target)) p = absurd p
-ReadsAs-migrate words (Ok (KeygenSeeds seed net target)) p = absurd p
-ReadsAs-migrate words (Ok (Replay net workers)) p = absurd p
-ReadsAs-migrate words (Ok (Logs net)) p = absurd p
-ReadsAs-migrate words (Ok (Trial seed stations count workers)) p = absurd p
-ReadsAs-migrate words (Err place) p = (rw p.0 refl, p.1 ∙ sym (as_far 7 (begun (name ∷ name ∷ []) words)))
+ReadsAs-migrate words (Ok _) p = absurd p
+ReadsAs-migrate words (Err place) p = (rw p.0 refl, p.1 ∙ sym (as_far 9 (begun (name ∷ name ∷ []) words)))
 
 -- the words after `logs`, read as its name, make the command
 pub ReadsAs-logs : (words : List (List ℕ)) (r : Result Command ℕ) → ReadsAsLogs words r → ReadsAs (codes "logs" ∷ words) r
 ReadsAs-logs words (Ok (Logs net)) p = (ap (λ (ws : List (List ℕ)). codes "logs" ∷ ws) p.0, p.1)
-ReadsAs-logs words (Ok (Sum file)) p = absurd p
-ReadsAs-logs words (Ok (Keygen seed net target)) p = absurd p
-ReadsAs-logs words (Ok (KeygenSeeds seed net target)) p = absurd p
-ReadsAs-logs words (Ok (Migrate keys target)) p = absurd p
-ReadsAs-logs words (Ok (Twin net perm target)) p = absurd p
-ReadsAs-logs words (Ok (Steer net u v wanted target)) p = absurd p
-ReadsAs-logs words (Ok (Replay net workers)) p = absurd p
-ReadsAs-logs words (Ok (Trial seed stations count workers)) p = absurd p
-ReadsAs-logs words (Err place) p = (rw p.0 refl, p.1 ∙ sym (as_far 4 (begun (name ∷ []) words)))
+ReadsAs-logs words (Ok _) p = absurd p
+ReadsAs-logs words (Err place) p = (rw p.0 refl, p.1 ∙ sym (as_far 6 (begun (name ∷ []) words)))
 
 -- the words after `replay`, read as its name and its number of workers, make the command
 pub ReadsAs-replay : (words : List (List ℕ)) (r : Result Command ℕ) → ReadsAsReplay words r → ReadsAs (codes "replay" ∷ words) r
 ReadsAs-replay words (Ok (Replay net workers)) p = (words, refl, p)
-ReadsAs-replay words (Ok (Sum file)) p = absurd p
-ReadsAs-replay words (Ok (Keygen seed net target)) p = absurd p
-ReadsAs-replay words (Ok (KeygenSeeds seed net target)) p = absurd p
-ReadsAs-replay words (Ok (Migrate keys target)) p = absurd p
-ReadsAs-replay words (Ok (Twin net perm target)) p = absurd p
-ReadsAs-replay words (Ok (Steer net u v wanted target)) p = absurd p
-ReadsAs-replay words (Ok (Logs net)) p = absurd p
-ReadsAs-replay words (Ok (Trial seed stations count workers)) p = absurd p
-ReadsAs-replay words (Err place) p = (rw (p.0, p.1) refl, p.2 ∙ sym (as_far_of_two 5 (begun (name ∷ []) words) (begun (name ∷ workers_slots) words) (begun_more (name ∷ []) workers_slots words)))
+ReadsAs-replay words (Ok _) p = absurd p
+ReadsAs-replay words (Err place) p = (rw (p.0, p.1) refl, p.2 ∙ sym (as_far_of_two 7 (begun (name ∷ []) words) (begun (name ∷ workers_slots) words) (begun_more (name ∷ []) workers_slots words)))
 
 -- the words after `trial`, read as its numbers, make the command
 pub ReadsAs-trial : (words : List (List ℕ)) (r : Result Command ℕ) → ReadsAsTrial words r → ReadsAs (codes "trial" ∷ words) r
 ReadsAs-trial words (Ok (Trial seed stations count workers)) p = (words, refl, p)
-ReadsAs-trial words (Ok (Sum file)) p = absurd p
-ReadsAs-trial words (Ok (Keygen seed net target)) p = absurd p
-ReadsAs-trial words (Ok (KeygenSeeds seed net target)) p = absurd p
-ReadsAs-trial words (Ok (Migrate keys target)) p = absurd p
-ReadsAs-trial words (Ok (Twin net perm target)) p = absurd p
-ReadsAs-trial words (Ok (Steer net u v wanted target)) p = absurd p
-ReadsAs-trial words (Ok (Replay net workers)) p = absurd p
-ReadsAs-trial words (Ok (Logs net)) p = absurd p
+ReadsAs-trial words (Ok _) p = absurd p
 ReadsAs-trial words (Err place) p =
     let slots = trial_slots (slice_index_or words 1 []) in
     (rw (p.0, p.1) refl, p.2 ∙ sym (as_far_of_two 0 (begun slots words) (begun (slots ++ workers_slots) words) (begun_more slots workers_slots words)))
@@ -164,28 +125,26 @@ one_less k n = omega arith
 -- the words after `twin`, read as its names, make the command
 pub ReadsAs-twin : (words : List (List ℕ)) (r : Result Command ℕ) → ReadsAsTwin words r → ReadsAs (codes "twin" ∷ words) r
 ReadsAs-twin words (Ok (Twin net perm target)) p = (words, refl, p)
-ReadsAs-twin words (Ok (Sum file)) p = absurd p
-ReadsAs-twin words (Ok (Keygen seed net target)) p = absurd p
-ReadsAs-twin words (Ok (KeygenSeeds seed net target)) p = absurd p
-ReadsAs-twin words (Ok (Migrate keys target)) p = absurd p
-ReadsAs-twin words (Ok (Replay net workers)) p = absurd p
-ReadsAs-twin words (Ok (Logs net)) p = absurd p
-ReadsAs-twin words (Ok (Steer net u v wanted target)) p = absurd p
-ReadsAs-twin words (Ok (Trial seed stations count workers)) p = absurd p
-ReadsAs-twin words (Err place) p = (rw p.0 refl, p.1 ∙ sym (as_far 3 (begun twin_slots words)))
+ReadsAs-twin words (Ok _) p = absurd p
+ReadsAs-twin words (Err place) p = (rw p.0 refl, p.1 ∙ sym (as_far 5 (begun twin_slots words)))
 
 -- the words after `steer`, read as its names and stations, make the command
 pub ReadsAs-steer : (words : List (List ℕ)) (r : Result Command ℕ) → ReadsAsSteer words r → ReadsAs (codes "steer" ∷ words) r
 ReadsAs-steer words (Ok (Steer net u v wanted target)) p = (words, refl, p)
-ReadsAs-steer words (Ok (Sum file)) p = absurd p
-ReadsAs-steer words (Ok (Keygen seed net target)) p = absurd p
-ReadsAs-steer words (Ok (KeygenSeeds seed net target)) p = absurd p
-ReadsAs-steer words (Ok (Migrate keys target)) p = absurd p
-ReadsAs-steer words (Ok (Replay net workers)) p = absurd p
-ReadsAs-steer words (Ok (Logs net)) p = absurd p
-ReadsAs-steer words (Ok (Twin net perm target)) p = absurd p
-ReadsAs-steer words (Ok (Trial seed stations count workers)) p = absurd p
-ReadsAs-steer words (Err place) p = (rw p.0 refl, p.1 ∙ sym (as_far 2 (begun steer_slots words)))
+ReadsAs-steer words (Ok _) p = absurd p
+ReadsAs-steer words (Err place) p = (rw p.0 refl, p.1 ∙ sym (as_far 4 (begun steer_slots words)))
+
+-- the words after `station`, read as an address and a station, make the command
+pub ReadsAs-station : (words : List (List ℕ)) (r : Result Command ℕ) → ReadsAsStation words r → ReadsAs (codes "station" ∷ words) r
+ReadsAs-station words (Ok (Station addr id keys stream)) p = (words, refl, p)
+ReadsAs-station words (Ok _) p = absurd p
+ReadsAs-station words (Err place) p = (rw p.0 refl, p.1 ∙ sym (as_far 3 (begun station_slots words)))
+
+-- the words after `hub`, read as an address and a session, make the command
+pub ReadsAs-hub : (words : List (List ℕ)) (r : Result Command ℕ) → ReadsAsHub words r → ReadsAs (codes "hub" ∷ words) r
+ReadsAs-hub words (Ok (Hub addr stations count target)) p = (words, refl, p)
+ReadsAs-hub words (Ok _) p = absurd p
+ReadsAs-hub words (Err place) p = (rw p.0 refl, p.1 ∙ sym (as_far 2 (begun hub_slots words)))
 
 -- a word that fits its place, and those after it, which do not; of places of which so many others stand before them
 later_place : (before : ℕ) (slot : Slot) (slots : List Slot) (word : List ℕ) (words : List (List ℕ)) (place : ℕ) → fits slot word ≡ true
@@ -202,14 +161,7 @@ first_place before slot slots word words e = (rw e refl, rw e (omega arith))
 pub ReadsAsSteer-ends : (net : List ℕ) (words : List (List ℕ)) (r : Result Command ℕ) → is_name net ≡ true → ReadsAsEnds net words r → ReadsAsSteer (net ∷ words) r
 ReadsAsSteer-ends net words (Ok (Steer named u v wanted target)) e p =
     record { rest = words; words_are = ap (λ (n : List ℕ). n ∷ words) (sym p.0); net_is = rw p.0 e; ends = p.1 }
-ReadsAsSteer-ends net words (Ok (Sum file)) e p = absurd p
-ReadsAsSteer-ends net words (Ok (Keygen seed other target)) e p = absurd p
-ReadsAsSteer-ends net words (Ok (KeygenSeeds seed other target)) e p = absurd p
-ReadsAsSteer-ends net words (Ok (Migrate keys target)) e p = absurd p
-ReadsAsSteer-ends net words (Ok (Replay other workers)) e p = absurd p
-ReadsAsSteer-ends net words (Ok (Logs other)) e p = absurd p
-ReadsAsSteer-ends net words (Ok (Twin other perm target)) e p = absurd p
-ReadsAsSteer-ends net words (Ok (Trial seed stations count workers)) e p = absurd p
+ReadsAsSteer-ends net words (Ok _) e p = absurd p
 ReadsAsSteer-ends net words (Err place) e p = later_place 1 name ends_slots net words place e p.0 p.1
 
 -- the words after the first station, and this station
@@ -217,14 +169,7 @@ pub ReadsAsEnds-second : (net digits : List ℕ) (words : List (List ℕ)) (u : 
     → ReadsAsSecond net u words r → ReadsAsEnds net (digits ∷ words) r
 ReadsAsEnds-second net digits words u (Ok (Steer named seen v wanted target)) e p =
     (p.0, record { digits = digits; rest = words; words_are = refl; u_is = e ∙ ap Some (sym p.1); second = p.2 })
-ReadsAsEnds-second net digits words u (Ok (Sum file)) e p = absurd p
-ReadsAsEnds-second net digits words u (Ok (Keygen base other target)) e p = absurd p
-ReadsAsEnds-second net digits words u (Ok (KeygenSeeds base other target)) e p = absurd p
-ReadsAsEnds-second net digits words u (Ok (Migrate keys target)) e p = absurd p
-ReadsAsEnds-second net digits words u (Ok (Replay other workers)) e p = absurd p
-ReadsAsEnds-second net digits words u (Ok (Logs other)) e p = absurd p
-ReadsAsEnds-second net digits words u (Ok (Twin other perm target)) e p = absurd p
-ReadsAsEnds-second net digits words u (Ok (Trial base stations count workers)) e p = absurd p
+ReadsAsEnds-second net digits words u (Ok _) e p = absurd p
 ReadsAsEnds-second net digits words u (Err place) e p = later_place 2 (number 0 255) second_slots digits words place (rw e refl) p.0 p.1
 
 -- the words after the second station, and this station
@@ -232,14 +177,7 @@ pub ReadsAsSecond-wanted : (net digits : List ℕ) (words : List (List ℕ)) (u 
     → ReadsAsWanted net u v words r → ReadsAsSecond net u (digits ∷ words) r
 ReadsAsSecond-wanted net digits words u v (Ok (Steer named seen other wanted target)) e p =
     (p.0, p.1, record { digits = digits; rest = words; words_are = refl; v_is = e ∙ ap Some (sym p.2); names = p.3 })
-ReadsAsSecond-wanted net digits words u v (Ok (Sum file)) e p = absurd p
-ReadsAsSecond-wanted net digits words u v (Ok (Keygen base other target)) e p = absurd p
-ReadsAsSecond-wanted net digits words u v (Ok (KeygenSeeds base other target)) e p = absurd p
-ReadsAsSecond-wanted net digits words u v (Ok (Migrate keys target)) e p = absurd p
-ReadsAsSecond-wanted net digits words u v (Ok (Replay other workers)) e p = absurd p
-ReadsAsSecond-wanted net digits words u v (Ok (Logs other)) e p = absurd p
-ReadsAsSecond-wanted net digits words u v (Ok (Twin other perm target)) e p = absurd p
-ReadsAsSecond-wanted net digits words u v (Ok (Trial base stations count workers)) e p = absurd p
+ReadsAsSecond-wanted net digits words u v (Ok _) e p = absurd p
 ReadsAsSecond-wanted net digits words u v (Err place) e p = later_place 3 (number 0 255) (name ∷ name ∷ []) digits words place (rw e refl) p.0 p.1
 
 -- a word that is no station
@@ -252,6 +190,57 @@ pub no_second : {A : Type 0} (xs : List (String A)) (d : String A) (net : List �
     → ReadsAsSecond net u (texts xs) (Err 3)
 no_second [] d net u le e = absurd (omega arith)
 no_second (x ∷ xs) d net u le e = first_place 3 (number 0 255) (name ∷ name ∷ []) (string_bytes x) (texts xs) (rw e refl)
+
+-- the words after an address, and this address
+pub ReadsAsStation-player : (addr : List ℕ) (words : List (List ℕ)) (r : Result Command ℕ) → is_name addr ≡ true → ReadsAsPlayer addr words r → ReadsAsStation (addr ∷ words) r
+ReadsAsStation-player addr words (Ok (Station at id keys stream)) e p =
+    record { rest = words; words_are = ap (λ (n : List ℕ). n ∷ words) (sym p.0); addr_is = rw p.0 e; player = p.1 }
+ReadsAsStation-player addr words (Ok _) e p = absurd p
+ReadsAsStation-player addr words (Err place) e p = later_place 1 name player_slots addr words place e p.0 p.1
+
+pub ReadsAsHub-hosted : (addr : List ℕ) (words : List (List ℕ)) (r : Result Command ℕ) → is_name addr ≡ true → ReadsAsHosted addr words r → ReadsAsHub (addr ∷ words) r
+ReadsAsHub-hosted addr words (Ok (Hub at stations count target)) e p =
+    record { rest = words; words_are = ap (λ (n : List ℕ). n ∷ words) (sym p.0); addr_is = rw p.0 e; hosted = p.1 }
+ReadsAsHub-hosted addr words (Ok _) e p = absurd p
+ReadsAsHub-hosted addr words (Err place) e p = later_place 1 name hosted_slots addr words place e p.0 p.1
+
+-- the words after a number, and this number
+pub ReadsAsPlayer-files : (addr digits : List ℕ) (words : List (List ℕ)) (id : ℕ) (r : Result Command ℕ) → number_between 0 255 digits ≡ Some id
+    → ReadsAsFiles addr id words r → ReadsAsPlayer addr (digits ∷ words) r
+ReadsAsPlayer-files addr digits words id (Ok (Station at seen keys stream)) e p =
+    (p.0, record { digits = digits; rest = words; words_are = refl; id_is = e ∙ ap Some (sym p.1); files = p.2 })
+ReadsAsPlayer-files addr digits words id (Ok _) e p = absurd p
+ReadsAsPlayer-files addr digits words id (Err place) e p = later_place 2 (number 0 255) (name ∷ name ∷ []) digits words place (rw e refl) p.0 p.1
+
+pub ReadsAsHosted-length : (addr digits : List ℕ) (words : List (List ℕ)) (stations : ℕ) (r : Result Command ℕ) → number_between 1 most_stations digits ≡ Some stations
+    → ReadsAsLength addr stations words r → ReadsAsHosted addr (digits ∷ words) r
+ReadsAsHosted-length addr digits words stations (Ok (Hub at seen count target)) e p =
+    (p.0, record { digits = digits; rest = words; words_are = refl; stations_are = e ∙ ap Some (sym p.1); length = p.2 })
+ReadsAsHosted-length addr digits words stations (Ok _) e p = absurd p
+ReadsAsHosted-length addr digits words stations (Err place) e p = later_place 2 (number 1 most_stations) length_slots digits words place (rw e refl) p.0 p.1
+
+pub ReadsAsLength-target : (addr digits : List ℕ) (words : List (List ℕ)) (stations count : ℕ) (r : Result Command ℕ) → number_between 1 most_words digits ≡ Some count
+    → ReadsAsTarget addr stations count words r → ReadsAsLength addr stations (digits ∷ words) r
+ReadsAsLength-target addr digits words stations count (Ok (Hub at seen of target)) e p =
+    (p.0, p.1, record { digits = digits; rest = words; words_are = refl; count_is = e ∙ ap Some (sym p.2); named = p.3 })
+ReadsAsLength-target addr digits words stations count (Ok _) e p = absurd p
+ReadsAsLength-target addr digits words stations count (Err place) e p = later_place 3 (number 1 most_words) (name ∷ []) digits words place (rw e refl) p.0 p.1
+
+-- a word that is no number
+pub no_player : {A : Type 0} (xs : List (String A)) (d : String A) (addr : List ℕ) → 1 ≤ length xs → number_between 0 255 (string_bytes (get_or xs 0 d)) ≡ None
+    → ReadsAsPlayer addr (texts xs) (Err 2)
+no_player [] d addr le e = absurd (omega arith)
+no_player (x ∷ xs) d addr le e = first_place 2 (number 0 255) (name ∷ name ∷ []) (string_bytes x) (texts xs) (rw e refl)
+
+pub no_hosted : {A : Type 0} (xs : List (String A)) (d : String A) (addr : List ℕ) → 1 ≤ length xs → number_between 1 most_stations (string_bytes (get_or xs 0 d)) ≡ None
+    → ReadsAsHosted addr (texts xs) (Err 2)
+no_hosted [] d addr le e = absurd (omega arith)
+no_hosted (x ∷ xs) d addr le e = first_place 2 (number 1 most_stations) length_slots (string_bytes x) (texts xs) (rw e refl)
+
+pub no_length : {A : Type 0} (xs : List (String A)) (d : String A) (addr : List ℕ) (stations : ℕ) → 1 ≤ length xs → number_between 1 most_words (string_bytes (get_or xs 0 d)) ≡ None
+    → ReadsAsLength addr stations (texts xs) (Err 3)
+no_length [] d addr stations le e = absurd (omega arith)
+no_length (x ∷ xs) d addr stations le e = first_place 3 (number 1 most_words) (name ∷ []) (string_bytes x) (texts xs) (rw e refl)
 
 -- the first word does not fit
 pub FitsNot-first : (before : ℕ) (slot : Slot) (slots : List Slot) (word : List ℕ) (words : List (List ℕ)) → fits slot word ≡ false → FitsNot before (slot ∷ slots) (word ∷ words) before
@@ -294,14 +283,7 @@ ReadsAsTrial-stations digits words seed (Ok (Trial seen stations count workers))
       count_is = after.count_is;
       workers_are = after.workers_are;
     }
-ReadsAsTrial-stations digits words seed (Ok (Sum file)) e p = absurd p
-ReadsAsTrial-stations digits words seed (Ok (Keygen other net target)) e p = absurd p
-ReadsAsTrial-stations digits words seed (Ok (KeygenSeeds other net target)) e p = absurd p
-ReadsAsTrial-stations digits words seed (Ok (Migrate keys target)) e p = absurd p
-ReadsAsTrial-stations digits words seed (Ok (Twin net perm target)) e p = absurd p
-ReadsAsTrial-stations digits words seed (Ok (Steer net u v wanted target)) e p = absurd p
-ReadsAsTrial-stations digits words seed (Ok (Replay net workers)) e p = absurd p
-ReadsAsTrial-stations digits words seed (Ok (Logs net)) e p = absurd p
+ReadsAsTrial-stations digits words seed (Ok _) e p = absurd p
 ReadsAsTrial-stations digits words seed (Err place) e p = FitsNot-later 1 (number 0 4294967295) (stations_slots (slice_index_or words 0 [])) digits words place (rw e refl) p
 
 -- the words after the number of stations, and this number
@@ -310,14 +292,7 @@ pub ReadsAsStations-words : (digits : List ℕ) (words : List (List ℕ)) (seed 
 ReadsAsStations-words digits words seed stations (Ok (Trial seen of count workers)) e p =
     let W : ℕ → Type 0 = λ n. SpellsWords words n count workers in
     (p.0, record { of_stations = digits; rest = words; words_are = refl; stations_are = e ∙ ap Some (sym p.1); words_after = subst W (sym p.1) p.2 })
-ReadsAsStations-words digits words seed stations (Ok (Sum file)) e p = absurd p
-ReadsAsStations-words digits words seed stations (Ok (Keygen other net target)) e p = absurd p
-ReadsAsStations-words digits words seed stations (Ok (KeygenSeeds other net target)) e p = absurd p
-ReadsAsStations-words digits words seed stations (Ok (Migrate keys target)) e p = absurd p
-ReadsAsStations-words digits words seed stations (Ok (Twin net perm target)) e p = absurd p
-ReadsAsStations-words digits words seed stations (Ok (Steer net u v wanted target)) e p = absurd p
-ReadsAsStations-words digits words seed stations (Ok (Replay net workers)) e p = absurd p
-ReadsAsStations-words digits words seed stations (Ok (Logs net)) e p = absurd p
+ReadsAsStations-words digits words seed stations (Ok _) e p = absurd p
 ReadsAsStations-words digits words seed stations (Err place) e p =
     FitsNot-later 2 (number 1 most_stations) (words_slots (stations_in digits)) digits words place (rw e refl)
     (let there : stations_in digits ≡ stations = ap (λ (o : Option ℕ). unwrap_or o 1) e in

@@ -6,7 +6,7 @@ use Rattle.dc_cli.specs.Making.{Making, MadeOfFile, MakesOf}
 use Rattle.dc_cli.specs.Promises.{LeavesOthers, TellsName}
 use Rattle.dc_cli.specs.declared.outcome.FileFault.{FileFault}
 use Rattle.dc_cli.specs.declared.outcome.Outcome.{Outcome}
-use Rattle.dc_cli.specs.declared.outcome.Outcome.TheVariants.{Done, Usage, Missing, TooLong, Malformed, Disagree, Refused, ShelfFault, SinkFault, NoMemory}
+use Rattle.dc_cli.specs.declared.outcome.Outcome.TheVariants.{Done, Usage, Missing, TooLong, Malformed, Disagree, Refused, ShelfFault, SinkFault, WireFault, Peer, NoMemory}
 use Rattle.dc_edge.proofs.PutLemmas.{Rose-earlier}
 use Rattle.dc_cli.proofs.ShelfLemmas.{told_bytes, held_is_there, held_within, others_since, others_of_all, AskedUpTo, asked_none, asked_first, asked_whole, asked_two, LastAsked, last_is}
 
@@ -22,6 +22,8 @@ MadeOfFile-kept m s s' (Err (Usage place)) p = absurd p
 MadeOfFile-kept m s s' (Err (Disagree fault)) p = absurd p
 MadeOfFile-kept m s s' (Err (Refused fault)) p = absurd p
 MadeOfFile-kept m s s' (Err SinkFault) p = absurd p
+MadeOfFile-kept m s s' (Err WireFault) p = absurd p
+MadeOfFile-kept m s s' (Err (Peer who fault)) p = absurd p
 
 -- the name that is written may change, no other name does
 pub MakesOf-leaves : (m : Making) (s s' : ShelfState) (outcome : Outcome) → MakesOf m s s' outcome → LeavesOthers m.target outcome s s'
@@ -41,6 +43,8 @@ MadeOfFile-asked m s s' (Err (Usage place)) p = absurd p
 MadeOfFile-asked m s s' (Err (Disagree fault)) p = absurd p
 MadeOfFile-asked m s s' (Err (Refused fault)) p = absurd p
 MadeOfFile-asked m s s' (Err SinkFault) p = absurd p
+MadeOfFile-asked m s s' (Err WireFault) p = absurd p
+MadeOfFile-asked m s s' (Err (Peer who fault)) p = absurd p
 
 -- where all was done, the file was asked for, then the name that is written
 pub MakesOf-asked_all : (m : Making) (s s' : ShelfState) → MakesOf m s s' Done → s'.asked ≡ grown s.asked (m.source ∷ m.target ∷ [])
@@ -103,6 +107,8 @@ MakesOf-ends m s s' (Usage place) read told le calm p = absurd p
 MakesOf-ends m s s' (Disagree fault) read told le calm p = absurd p
 MakesOf-ends m s s' (Refused fault) read told le calm p = absurd p
 MakesOf-ends m s s' SinkFault read told le calm p = absurd p
+MakesOf-ends m s s' WireFault read told le calm p = absurd p
+MakesOf-ends m s s' (Peer who fault) read told le calm p = absurd p
 
 pub MakesOf-completes : (m : Making) (s s' : ShelfState) (outcome : Outcome) (read bytes : List ℕ) → s.holds m.source ≡ held read → length read ≤ m.limit → m.due read ≡ Ok bytes
     → (Rose s.faults s'.faults → ⊥) → MakesOf m s s' outcome → (outcome ≡ Done) ⊎ (outcome ≡ NoMemory)

@@ -16,12 +16,12 @@ use Rattle.dc_net_files.specs.declared.fault.NetFileFault.{NetFileFault}
 use Rattle.dc_net_files.specs.declared.fault.NetFileFault.TheVariants as files
 use Rattle.dc_net_files.specs.declared.fault.NotRead.{NotRead}
 use Rattle.dc_net_files.specs.declared.fault.NotRead.TheVariants as refusals
-use Rattle.dc_cli.specs.Replaying.{file_fault_of, outcome_of, ReadsNet, RefusesNet, NetRan, RunPrinted}
+use Rattle.dc_cli.specs.Replaying.{file_fault_of, outcome_of, RefusesNet, NetRan, RunPrinted}
 use Rattle.dc_cli.specs.declared.outcome.FileFault.{FileFault}
 use Rattle.dc_cli.specs.declared.outcome.FileFault.TheVariants.{Transcript}
 use Rattle.dc_cli.specs.declared.outcome.Outcome.{Outcome}
-use Rattle.dc_cli.specs.declared.outcome.Outcome.TheVariants.{Done, Usage, Missing, TooLong, Malformed, ShelfFault as ShelfFailed, SinkFault, NoMemory}
-use Rattle.dc_cli.specs.Promises.{TellsName, NamesOfNet, NeedsOfNet, next_name}
+use Rattle.dc_cli.specs.declared.outcome.Outcome.TheVariants.{Done, Usage, Missing, TooLong, Malformed, ShelfFault as ShelfFailed, SinkFault, WireFault, NoMemory}
+use Rattle.dc_cli.specs.Promises.{TellsName, NamesOf, NamesOfNet, NeedsOfNet, next_name}
 use Rattle.dc_cli.proofs.ShelfLemmas.{LastAsked, AskedUpTo}
 
 -- all files stay, whatever the answer
@@ -35,7 +35,7 @@ Ended-kept reader s s' (Err refusals.ShelfFault) p = p.1.read.kept ∙ p.1.gave.
 Ended-kept reader s s' (Err refusals.NoMemory) p = p.1.kept
 
 -- the name that was needed and not given is the last that was asked for
-Stops-last : {A : Type 0} (reader : Reader A) (name : List ℕ) (cause : ShelfFault) (s s' : ShelfState) → (cause ≡ causes.NoMemory → ⊥)
+pub Stops-last : {A : Type 0} (reader : Reader A) (name : List ℕ) (cause : ShelfFault) (s s' : ShelfState) → (cause ≡ causes.NoMemory → ⊥)
     → Stops reader name cause s s' → LastAsked name s s'
 Stops-last reader name causes.Missing s s' is p =
     (names_of p.files, p.read.asked ∙ ap (λ (t : Option (List (List ℕ))). grown t (name ∷ [])) p.gave.asked ∙ grown-grown s.asked (names_of p.files) (name ∷ []))
@@ -55,7 +55,7 @@ Refuses-last reader name fault s s' p = (
 )
 
 -- a file that is missing is absent, or unknown where the count of faults rose
-Stops-missing : {A : Type 0} (reader : Reader A) (name : List ℕ) (s s' : ShelfState) → Stops reader name causes.Missing s s'
+pub Stops-missing : {A : Type 0} (reader : Reader A) (name : List ℕ) (s s' : ShelfState) → Stops reader name causes.Missing s s'
     → (s.holds name ≡ absent) ⊎ FailsUntold (s.holds name) s.faults s'.faults
 Stops-missing reader name s s' p =
     let same : p.middle.holds name ≡ s.holds name = ap (λ (hs : List ℕ → Holding). hs name) p.gave.kept in
@@ -65,7 +65,7 @@ Stops-missing reader name s s' p =
     ]
 
 -- a file that is too long is longer than the limit within which it was needed, or unknown where the count rose
-Stops-long : {A : Type 0} (reader : Reader A) (name : List ℕ) (s s' : ShelfState) (p : Stops reader name causes.TooLong s s')
+pub Stops-long : {A : Type 0} (reader : Reader A) (name : List ℕ) (s s' : ShelfState) (p : Stops reader name causes.TooLong s s')
     → IsHeldAbove (s.holds name) p.limit ⊎ FailsUntold (s.holds name) s.faults s'.faults
 Stops-long reader name s s' p =
     let same : p.middle.holds name ≡ s.holds name = ap (λ (hs : List ℕ → Holding). hs name) p.gave.kept in
@@ -85,7 +85,7 @@ NetRan-kept text name s s' o o' NoMemory p = Ended-kept (net_step name) s s' p.1
 NetRan-kept text name s s' o o' _ p = Ended-kept (net_step name) s s' (Err p.1.refusal) p.1.reads.read
 
 -- no refusal is a command line that is not a form, or an end
-refusal_not : (refusal : NotRead) (place : ℕ) → Usage place ≡ outcome_of refusal → ⊥
+pub refusal_not : (refusal : NotRead) (place : ℕ) → Usage place ≡ outcome_of refusal → ⊥
 refusal_not (refusals.Missing name) place e = absurd cc
 refusal_not (refusals.TooLong name) place e = absurd cc
 refusal_not (refusals.Malformed name fault) place e = absurd cc
@@ -96,63 +96,75 @@ refusal_not refusals.NoMemory place e = absurd cc
 pub NetRan-usage : (text : Net → Run → List ℕ) (name : List ℕ) (s s' : ShelfState) (o o' : SinkState) (place : ℕ) → NetRan text name s s' o o' (Usage place) → ⊥
 NetRan-usage text name s s' o o' place p = refusal_not p.1.refusal place p.1.outcome_is
 
+-- no refusal is a fault of the wire
+pub refusal_no_wire : (refusal : NotRead) → WireFault ≡ outcome_of refusal → ⊥
+refusal_no_wire (refusals.Missing name) e = absurd cc
+refusal_no_wire (refusals.TooLong name) e = absurd cc
+refusal_no_wire (refusals.Malformed name fault) e = absurd cc
+refusal_no_wire (refusals.Disagree fault) e = absurd cc
+refusal_no_wire refusals.ShelfFault e = absurd cc
+refusal_no_wire refusals.NoMemory e = absurd cc
+
+pub NetRan-no_wire : (text : Net → Run → List ℕ) (name : List ℕ) (s s' : ShelfState) (o o' : SinkState) → NetRan text name s s' o o' WireFault → ⊥
+NetRan-no_wire text name s s' o o' p = refusal_no_wire p.1.refusal p.1.outcome_is
+
 -- a file that is told as missing was needed, and was not given
-missing_of : (name seen : List ℕ) (s s' : ShelfState) (refusal : NotRead) → Missing seen ≡ outcome_of refusal → ReadsNet name s s' (Err refusal)
-    → Stops (net_step name) seen causes.Missing s s'
-missing_of name seen s s' (refusals.Missing told) e p = let P : List ℕ → Type 0 = λ n. Stops (net_step name) n causes.Missing s s' in let same : told ≡ seen = cc in subst P same p.read
-missing_of name seen s s' (refusals.TooLong told) e p = absurd cc
-missing_of name seen s s' (refusals.Malformed told fault) e p = absurd cc
-missing_of name seen s s' (refusals.Disagree fault) e p = absurd cc
-missing_of name seen s s' refusals.ShelfFault e p = absurd cc
-missing_of name seen s s' refusals.NoMemory e p = absurd cc
+pub missing_of : {A : Type 0} (reader : Reader A) (seen : List ℕ) (s s' : ShelfState) (refusal : NotRead) → Missing seen ≡ outcome_of refusal → Ended reader s s' (Err refusal)
+    → Stops reader seen causes.Missing s s'
+missing_of reader seen s s' (refusals.Missing told) e p = let P : List ℕ → Type 0 = λ n. Stops reader n causes.Missing s s' in let same : told ≡ seen = cc in subst P same p
+missing_of reader seen s s' (refusals.TooLong told) e p = absurd cc
+missing_of reader seen s s' (refusals.Malformed told fault) e p = absurd cc
+missing_of reader seen s s' (refusals.Disagree fault) e p = absurd cc
+missing_of reader seen s s' refusals.ShelfFault e p = absurd cc
+missing_of reader seen s s' refusals.NoMemory e p = absurd cc
 
 pub NetRan-missing : (text : Net → Run → List ℕ) (name seen : List ℕ) (s s' : ShelfState) (o o' : SinkState) → NetRan text name s s' o o' (Missing seen)
     → (s.holds seen ≡ absent) ⊎ FailsUntold (s.holds seen) s.faults s'.faults
-NetRan-missing text name seen s s' o o' p = Stops-missing (net_step name) seen s s' (missing_of name seen s s' p.1.refusal p.1.outcome_is p.1.reads)
+NetRan-missing text name seen s s' o o' p = Stops-missing (net_step name) seen s s' (missing_of (net_step name) seen s s' p.1.refusal p.1.outcome_is p.1.reads.read)
 
 -- and so for a file that is told as too long
-pub long_of : (name seen : List ℕ) (s s' : ShelfState) (refusal : NotRead) → TooLong seen ≡ outcome_of refusal → ReadsNet name s s' (Err refusal)
-    → Stops (net_step name) seen causes.TooLong s s'
-long_of name seen s s' (refusals.TooLong told) e p = let P : List ℕ → Type 0 = λ n. Stops (net_step name) n causes.TooLong s s' in let same : told ≡ seen = cc in subst P same p.read
-long_of name seen s s' (refusals.Missing told) e p = absurd cc
-long_of name seen s s' (refusals.Malformed told fault) e p = absurd cc
-long_of name seen s s' (refusals.Disagree fault) e p = absurd cc
-long_of name seen s s' refusals.ShelfFault e p = absurd cc
-long_of name seen s s' refusals.NoMemory e p = absurd cc
+pub long_of : {A : Type 0} (reader : Reader A) (seen : List ℕ) (s s' : ShelfState) (refusal : NotRead) → TooLong seen ≡ outcome_of refusal → Ended reader s s' (Err refusal)
+    → Stops reader seen causes.TooLong s s'
+long_of reader seen s s' (refusals.TooLong told) e p = let P : List ℕ → Type 0 = λ n. Stops reader n causes.TooLong s s' in let same : told ≡ seen = cc in subst P same p
+long_of reader seen s s' (refusals.Missing told) e p = absurd cc
+long_of reader seen s s' (refusals.Malformed told fault) e p = absurd cc
+long_of reader seen s s' (refusals.Disagree fault) e p = absurd cc
+long_of reader seen s s' refusals.ShelfFault e p = absurd cc
+long_of reader seen s s' refusals.NoMemory e p = absurd cc
 
 -- a reported fault is that of the last file
-fault_last : (name seen : List ℕ) (fault : FileFault) (s s' : ShelfState) (refusal : NotRead) → Malformed seen fault ≡ outcome_of refusal → ReadsNet name s s' (Err refusal)
+pub fault_last : {A : Type 0} (reader : Reader A) (seen : List ℕ) (fault : FileFault) (s s' : ShelfState) (refusal : NotRead) → Malformed seen fault ≡ outcome_of refusal → Ended reader s s' (Err refusal)
     → LastAsked seen s s'
-fault_last name seen fault s s' (refusals.Malformed told found) e p =
-    let P : List ℕ → Type 0 = λ n. LastAsked n s s' in let same : told ≡ seen = cc in subst P same (Refuses-last (net_step name) told found s s' p.read)
-fault_last name seen fault s s' (refusals.Missing told) e p = absurd cc
-fault_last name seen fault s s' (refusals.TooLong told) e p = absurd cc
-fault_last name seen fault s s' (refusals.Disagree found) e p = absurd cc
-fault_last name seen fault s s' refusals.ShelfFault e p = absurd cc
-fault_last name seen fault s s' refusals.NoMemory e p = absurd cc
+fault_last reader seen fault s s' (refusals.Malformed told found) e p =
+    let P : List ℕ → Type 0 = λ n. LastAsked n s s' in let same : told ≡ seen = cc in subst P same (Refuses-last reader told found s s' p)
+fault_last reader seen fault s s' (refusals.Missing told) e p = absurd cc
+fault_last reader seen fault s s' (refusals.TooLong told) e p = absurd cc
+fault_last reader seen fault s s' (refusals.Disagree found) e p = absurd cc
+fault_last reader seen fault s s' refusals.ShelfFault e p = absurd cc
+fault_last reader seen fault s s' refusals.NoMemory e p = absurd cc
 
 pub NetRan-last_missing : (text : Net → Run → List ℕ) (name seen : List ℕ) (s s' : ShelfState) (o o' : SinkState) → NetRan text name s s' o o' (Missing seen) → LastAsked seen s s'
 NetRan-last_missing text name seen s s' o o' p =
-    Stops-last (net_step name) seen causes.Missing s s' (λ e. absurd cc) (missing_of name seen s s' p.1.refusal p.1.outcome_is p.1.reads)
+    Stops-last (net_step name) seen causes.Missing s s' (λ e. absurd cc) (missing_of (net_step name) seen s s' p.1.refusal p.1.outcome_is p.1.reads.read)
 
 pub NetRan-last_long : (text : Net → Run → List ℕ) (name seen : List ℕ) (s s' : ShelfState) (o o' : SinkState) → NetRan text name s s' o o' (TooLong seen) → LastAsked seen s s'
 NetRan-last_long text name seen s s' o o' p =
-    Stops-last (net_step name) seen causes.TooLong s s' (λ e. absurd cc) (long_of name seen s s' p.1.refusal p.1.outcome_is p.1.reads)
+    Stops-last (net_step name) seen causes.TooLong s s' (λ e. absurd cc) (long_of (net_step name) seen s s' p.1.refusal p.1.outcome_is p.1.reads.read)
 
 pub NetRan-last_fault : (text : Net → Run → List ℕ) (name seen : List ℕ) (fault : FileFault) (s s' : ShelfState) (o o' : SinkState) → NetRan text name s s' o o' (Malformed seen fault) → LastAsked seen s s'
-NetRan-last_fault text name seen fault s s' o o' p = fault_last name seen fault s s' p.1.refusal p.1.outcome_is p.1.reads
+NetRan-last_fault text name seen fault s s' o o' p = fault_last (net_step name) seen fault s s' p.1.refusal p.1.outcome_is p.1.reads.read
 
 -- the shelf's fault and the output's fault have their causes
-rose_of : (name : List ℕ) (s s' : ShelfState) (refusal : NotRead) → ShelfFailed ≡ outcome_of refusal → ReadsNet name s s' (Err refusal) → Rose s.faults s'.faults
-rose_of name s s' refusals.ShelfFault e p = Stops-rose (net_step name) p.read.0 s s' p.read.1
-rose_of name s s' (refusals.Missing told) e p = absurd cc
-rose_of name s s' (refusals.TooLong told) e p = absurd cc
-rose_of name s s' (refusals.Malformed told fault) e p = absurd cc
-rose_of name s s' (refusals.Disagree fault) e p = absurd cc
-rose_of name s s' refusals.NoMemory e p = absurd cc
+pub rose_of : {A : Type 0} (reader : Reader A) (s s' : ShelfState) (refusal : NotRead) → ShelfFailed ≡ outcome_of refusal → Ended reader s s' (Err refusal) → Rose s.faults s'.faults
+rose_of reader s s' refusals.ShelfFault e p = Stops-rose reader p.0 s s' p.1
+rose_of reader s s' (refusals.Missing told) e p = absurd cc
+rose_of reader s s' (refusals.TooLong told) e p = absurd cc
+rose_of reader s s' (refusals.Malformed told fault) e p = absurd cc
+rose_of reader s s' (refusals.Disagree fault) e p = absurd cc
+rose_of reader s s' refusals.NoMemory e p = absurd cc
 
 pub NetRan-shelf_rose : (text : Net → Run → List ℕ) (name : List ℕ) (s s' : ShelfState) (o o' : SinkState) → NetRan text name s s' o o' ShelfFailed → Rose s.faults s'.faults
-NetRan-shelf_rose text name s s' o o' p = rose_of name s s' p.1.refusal p.1.outcome_is p.1.reads
+NetRan-shelf_rose text name s s' o o' p = rose_of (net_step name) s s' p.1.refusal p.1.outcome_is p.1.reads.read
 
 pub NetRan-sink_rose : (text : Net → Run → List ℕ) (name : List ℕ) (s s' : ShelfState) (o o' : SinkState) → NetRan text name s s' o o' SinkFault → Rose o.faults o'.faults
 NetRan-sink_rose text name s s' o o' p = p.1.put.answer.1
@@ -185,10 +197,10 @@ NetRan-prints text name s s' o o' p = record {
   written = p.put.answer;
 }
 
-settles_made : (net : Net) (left : List (List ℕ)) (step : Step Net) (refusal : NotRead) → step ≡ makes net left → Settles step (Err refusal) → refusal ≡ refusals.NoMemory
-settles_made net left step refusal e p = let P : Step Net → Type 0 = λ x. Settles x (Err refusal) in settled net left refusal (subst P e p)
+pub settles_made : {A : Type 0} (net : A) (left : List (List ℕ)) (step : Step A) (refusal : NotRead) → step ≡ makes net left → Settles step (Err refusal) → refusal ≡ refusals.NoMemory
+settles_made {A} net left step refusal e p = let P : Step A → Type 0 = λ x. Settles x (Err refusal) in settled net left refusal (subst P e p)
   where
-    settled : (net : Net) (left : List (List ℕ)) (refusal : NotRead) → Settles (makes net left) (Err refusal) → refusal ≡ refusals.NoMemory
+    settled : {A : Type 0} (net : A) (left : List (List ℕ)) (refusal : NotRead) → Settles (makes net left) (Err refusal) → refusal ≡ refusals.NoMemory
     settled net left refusals.NoMemory p = refl
     settled net left (refusals.Missing told) p = absurd p
     settled net left (refusals.TooLong told) p = absurd p
@@ -227,10 +239,10 @@ NetRan-last text name s s' o o' outcome seen tells p =
 pub NetRan-long : (text : Net → Run → List ℕ) (name seen : List ℕ) (s s' : ShelfState) (o o' : SinkState) → NetRan text name s s' o o' (TooLong seen)
     → (limit : ℕ) × NeedsOfNet name s seen limit × (IsHeldAbove (s.holds seen) limit ⊎ FailsUntold (s.holds seen) s.faults s'.faults)
 NetRan-long text name seen s s' o o' p =
-    let q = long_of name seen s s' p.1.refusal p.1.outcome_is p.1.reads in
+    let q = long_of (net_step name) seen s s' p.1.refusal p.1.outcome_is p.1.reads.read in
     (q.limit, record { files = q.files; needed = q.gave.needed; told = q.gave.bytes; next = q.needed }, Stops-long (net_step name) seen s s' q)
 
-transcript_of_none : (seen : List ℕ) (fault : TranscriptFault) (refusal : NotRead) → Malformed seen (Transcript fault) ≡ outcome_of refusal → ⊥
+pub transcript_of_none : (seen : List ℕ) (fault : TranscriptFault) (refusal : NotRead) → Malformed seen (Transcript fault) ≡ outcome_of refusal → ⊥
 transcript_of_none seen fault (refusals.Malformed told found) e = no_transcript fault found cc
 transcript_of_none seen fault (refusals.Missing told) e = absurd cc
 transcript_of_none seen fault (refusals.TooLong told) e = absurd cc
@@ -243,41 +255,41 @@ pub NetRan-transcript : (text : Net → Run → List ℕ) (name seen : List ℕ)
 NetRan-transcript text name seen fault s s' o o' p = transcript_of_none seen fault p.1.refusal p.1.outcome_is
 
 -- a front of the names of the net was asked for
-abbrev pub AsksNames : List ℕ → ShelfState → ShelfState → Type 0
-AsksNames name s s' = (names : List (List ℕ)) × NamesOfNet name s names × AskedUpTo names s s'
+abbrev pub AsksNames : {A : Type 0} → Reader A → ShelfState → ShelfState → Type 0
+AsksNames reader s s' = (names : List (List ℕ)) × NamesOf reader s names × AskedUpTo names s s'
 
-gave_names : (name : List ℕ) (files : List File) (s s' : ShelfState) → Gave (net_step name) files s s' → AsksNames name s s'
-gave_names name files s s' p =
-    let next = next_name (net_step name (bytes_of files)) in
+pub gave_names : {A : Type 0} (reader : Reader A) (files : List File) (s s' : ShelfState) → Gave reader files s s' → AsksNames reader s s'
+gave_names reader files s s' p =
+    let next = next_name (reader (bytes_of files)) in
     (names_of files ++ next, record { files = files; needed = p.needed; told = p.bytes; names_are = refl }, (names_of files, (next, refl), p.asked))
 
-stops_names : (name seen : List ℕ) (cause : ShelfFault) (s s' : ShelfState) (p : Stops (net_step name) seen cause s s') → (cause ≡ causes.NoMemory → ⊥)
-    → AsksNames name s s'
-stops_names name seen cause s s' p is =
+pub stops_names : {A : Type 0} (reader : Reader A) (seen : List ℕ) (cause : ShelfFault) (s s' : ShelfState) (p : Stops reader seen cause s s') → (cause ≡ causes.NoMemory → ⊥)
+    → AsksNames reader s s'
+stops_names reader seen cause s s' p is =
     let names = names_of p.files ++ seen ∷ [] in
-    (names, record { files = p.files; needed = p.gave.needed; told = p.gave.bytes; names_are = rw p.needed refl }, (names, ([], sym (append-nil names)), (stops_asked name seen cause s s' p is)))
+    (names, record { files = p.files; needed = p.gave.needed; told = p.gave.bytes; names_are = rw p.needed refl }, (names, ([], sym (append-nil names)), (stops_asked reader seen cause s s' p is)))
   where
-    stops_asked : (name seen : List ℕ) (cause : ShelfFault) (s s' : ShelfState) (p : Stops (net_step name) seen cause s s') → (cause ≡ causes.NoMemory → ⊥)
+    stops_asked : {A : Type 0} (reader : Reader A) (seen : List ℕ) (cause : ShelfFault) (s s' : ShelfState) (p : Stops reader seen cause s s') → (cause ≡ causes.NoMemory → ⊥)
         → s'.asked ≡ grown s.asked (names_of p.files ++ seen ∷ [])
-    stops_asked name seen causes.Missing s s' p is = p.read.asked ∙ ap (λ (t : Option (List (List ℕ))). grown t (seen ∷ [])) p.gave.asked ∙ grown-grown s.asked (names_of p.files) (seen ∷ [])
-    stops_asked name seen causes.TooLong s s' p is = p.read.asked ∙ ap (λ (t : Option (List (List ℕ))). grown t (seen ∷ [])) p.gave.asked ∙ grown-grown s.asked (names_of p.files) (seen ∷ [])
-    stops_asked name seen causes.Failed s s' p is = p.read.asked ∙ ap (λ (t : Option (List (List ℕ))). grown t (seen ∷ [])) p.gave.asked ∙ grown-grown s.asked (names_of p.files) (seen ∷ [])
-    stops_asked name seen causes.NoMemory s s' p is = absurd (is refl)
+    stops_asked reader seen causes.Missing s s' p is = p.read.asked ∙ ap (λ (t : Option (List (List ℕ))). grown t (seen ∷ [])) p.gave.asked ∙ grown-grown s.asked (names_of p.files) (seen ∷ [])
+    stops_asked reader seen causes.TooLong s s' p is = p.read.asked ∙ ap (λ (t : Option (List (List ℕ))). grown t (seen ∷ [])) p.gave.asked ∙ grown-grown s.asked (names_of p.files) (seen ∷ [])
+    stops_asked reader seen causes.Failed s s' p is = p.read.asked ∙ ap (λ (t : Option (List (List ℕ))). grown t (seen ∷ [])) p.gave.asked ∙ grown-grown s.asked (names_of p.files) (seen ∷ [])
+    stops_asked reader seen causes.NoMemory s s' p is = absurd (is refl)
 
-read_names : (name : List ℕ) (s s' : ShelfState) (r : Result Net NotRead) → Ended (net_step name) s s' r → AsksNames name s s'
-read_names name s s' (Ok net) p = gave_names name p.files s s' p.gave
-read_names name s s' (Err (refusals.Missing seen)) p = stops_names name seen causes.Missing s s' p (λ e. absurd cc)
-read_names name s s' (Err (refusals.TooLong seen)) p = stops_names name seen causes.TooLong s s' p (λ e. absurd cc)
-read_names name s s' (Err (refusals.Malformed seen fault)) p = gave_names name (p.front ++ p.last ∷ []) s s' p.gave
-read_names name s s' (Err (refusals.Disagree fault)) p = gave_names name p.files s s' p.gave
-read_names name s s' (Err refusals.ShelfFault) p = stops_names name p.0 causes.Failed s s' p.1 (λ e. absurd cc)
-read_names name s s' (Err refusals.NoMemory) p = gave_names name p.0 s s' p.1
+pub read_names : {A : Type 0} (reader : Reader A) (s s' : ShelfState) (r : Result A NotRead) → Ended reader s s' r → AsksNames reader s s'
+read_names reader s s' (Ok net) p = gave_names reader p.files s s' p.gave
+read_names reader s s' (Err (refusals.Missing seen)) p = stops_names reader seen causes.Missing s s' p (λ e. absurd cc)
+read_names reader s s' (Err (refusals.TooLong seen)) p = stops_names reader seen causes.TooLong s s' p (λ e. absurd cc)
+read_names reader s s' (Err (refusals.Malformed seen fault)) p = gave_names reader (p.front ++ p.last ∷ []) s s' p.gave
+read_names reader s s' (Err (refusals.Disagree fault)) p = gave_names reader p.files s s' p.gave
+read_names reader s s' (Err refusals.ShelfFault) p = stops_names reader p.0 causes.Failed s s' p.1 (λ e. absurd cc)
+read_names reader s s' (Err refusals.NoMemory) p = gave_names reader p.0 s s' p.1
 
-pub NetRan-asked : (text : Net → Run → List ℕ) (name : List ℕ) (s s' : ShelfState) (o o' : SinkState) (outcome : Outcome) → NetRan text name s s' o o' outcome → AsksNames name s s'
-NetRan-asked text name s s' o o' Done p = read_names name s s' (Ok p.net) p.reads.read
-NetRan-asked text name s s' o o' SinkFault p = read_names name s s' (Ok p.1.net) p.1.reads.read
-NetRan-asked text name s s' o o' NoMemory p = read_names name s s' p.1.0 p.1.1.read
-NetRan-asked text name s s' o o' _ p = read_names name s s' (Err p.1.refusal) p.1.reads.read
+pub NetRan-asked : (text : Net → Run → List ℕ) (name : List ℕ) (s s' : ShelfState) (o o' : SinkState) (outcome : Outcome) → NetRan text name s s' o o' outcome → AsksNames (net_step name) s s'
+NetRan-asked text name s s' o o' Done p = read_names (net_step name) s s' (Ok p.net) p.reads.read
+NetRan-asked text name s s' o o' SinkFault p = read_names (net_step name) s s' (Ok p.1.net) p.1.reads.read
+NetRan-asked text name s s' o o' NoMemory p = read_names (net_step name) s s' p.1.0 p.1.1.read
+NetRan-asked text name s s' o o' _ p = read_names (net_step name) s s' (Err p.1.refusal) p.1.reads.read
 
 -- all names of the net, where all was done
 pub NetRan-asked_all : (text : Net → Run → List ℕ) (name : List ℕ) (s s' : ShelfState) (o o' : SinkState) → NetRan text name s s' o o' Done

@@ -13,12 +13,14 @@ use Rattle.dc_net.specs.declared.fault.NetFault.TheVariants as net
 use Rattle.dc_field.specs.declared.list_fault.ListKind.TheVariants as line_kinds
 use Rattle.dc_twin.specs.declared.fault.TwinFault.TheVariants as twins
 use Rattle.dc_steer.specs.declared.fault.SteerFault.TheVariants as steerings
+use Rattle.dc_live.specs.declared.fault.PeerFault.TheVariants as peers
+use Rattle.dc_frame.specs.declared.fault.FrameKind.TheVariants as frames
 use Rattle.dc_cli.specs.Forms.{is_form, longest_begun}
 use Rattle.dc_cli.specs.Lines.{fault_line}
 use Rattle.dc_cli.specs.Outcomes.{status_of}
 use Rattle.dc_cli.specs.declared.outcome.FileFault.TheVariants.{Transcript, Keys, Manifest, Stream, Script, List as Listed}
 use Rattle.dc_cli.specs.declared.outcome.CommandFault.TheVariants.{Twin, Steer}
-use Rattle.dc_cli.specs.declared.outcome.Outcome.TheVariants.{Done, Usage, Missing, TooLong, Malformed, Disagree, Refused, ShelfFault, SinkFault, NoMemory}
+use Rattle.dc_cli.specs.declared.outcome.Outcome.TheVariants.{Done, Usage, Missing, TooLong, Malformed, Disagree, Refused, ShelfFault, SinkFault, WireFault, Peer, NoMemory}
 
 -- the most bytes of each file
 limit-transcript : transcript_limit ≡ 134217728
@@ -352,3 +354,60 @@ form-steer = refl
 form-steer_256 : longest_begun (codes "steer" ∷ codes "n" ∷ codes "0" ∷ codes "256" ∷ codes "w" ∷ codes "o" ∷ []) ≡ 3
 unfolding digits
 form-steer_256 = refl
+
+-- ---- faults of the wire and of peers
+
+status-WireFault : status_of WireFault ≡ 10
+status-WireFault = refl
+
+status-Peer : status_of (Peer 0 (peers.Ended 79)) ≡ 11
+status-Peer = refl
+
+line-WireFault : fault_line WireFault ≡ codes "dcnet: wire fault" ++ 10 ∷ []
+line-WireFault = refl
+
+line-Ended : fault_line (Peer 0 (peers.Ended 79)) ≡ codes "dcnet: peer 0: ended at=79" ++ 10 ∷ []
+unfolding digits
+line-Ended = refl
+
+line-Unexpected : fault_line (Peer 0 (peers.Unexpected 2)) ≡ codes "dcnet: peer 0: unexpected tag=2" ++ 10 ∷ []
+unfolding digits
+line-Unexpected = refl
+
+line-Hello : fault_line (Peer 1 (peers.Hello 0 2 1)) ≡ codes "dcnet: peer 1: hello station=0 stations=2 words=1" ++ 10 ∷ []
+unfolding digits
+line-Hello = refl
+
+line-Round : fault_line (Peer 0 (peers.Round 1 0)) ≡ codes "dcnet: peer 0: round told=1 now=0" ++ 10 ∷ []
+unfolding digits
+line-Round = refl
+
+line-Tag : fault_line (Peer 0 (peers.Frame (record { at = 9; kind = frames.Tag 9 }))) ≡ codes "dcnet: peer 0: frame at=9 tag seen=9" ++ 10 ∷ []
+unfolding digits
+line-Tag = refl
+
+line-Length : fault_line (Peer 0 (peers.Frame (record { at = 10; kind = frames.Length 65 }))) ≡ codes "dcnet: peer 0: frame at=10 length seen=65" ++ 10 ∷ []
+unfolding digits
+line-Length = refl
+
+line-FrameSymbol : fault_line (Peer 0 (peers.Frame (record { at = 14; kind = frames.Symbol 65537 }))) ≡ codes "dcnet: peer 0: frame at=14 symbol seen=65537" ++ 10 ∷ []
+unfolding digits
+line-FrameSymbol = refl
+
+-- ---- the forms of the sessions
+
+form-station : is_form (codes "station" ∷ codes "x:1" ∷ codes "0" ∷ codes "k.bin" ∷ codes "s.txt" ∷ []) ≡ true
+unfolding digits
+form-station = refl
+
+form-hub : is_form (codes "hub" ∷ codes "x:1" ∷ codes "256" ∷ codes "4096" ∷ codes "o.bin" ∷ []) ≡ true
+unfolding digits
+form-hub = refl
+
+form-station-256 : longest_begun (codes "station" ∷ codes "x:1" ∷ codes "256" ∷ codes "k.bin" ∷ codes "s.txt" ∷ []) ≡ 2
+unfolding digits
+form-station-256 = refl
+
+form-hub-257 : longest_begun (codes "hub" ∷ codes "x:1" ∷ codes "257" ∷ codes "1" ∷ codes "o.bin" ∷ []) ≡ 2
+unfolding digits
+form-hub-257 = refl

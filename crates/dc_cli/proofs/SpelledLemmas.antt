@@ -5,7 +5,7 @@ use Rattle.std.specs.Str.{bytes_eq}
 use Rattle.std.proofs.lemmas.Slice.Eq.{bytes_eq-Decides}
 use Rattle.dc_spec.specs.Limits.{most_stations}
 use Rattle.dc_cli.specs.Forms.{Slot, number, number_between, fits, spells, workers_slots, most_words_of, stations_in, words_slots, stations_slots, trial_slots, is_name, is_form}
-use Rattle.dc_cli.specs.Commands.{Task, sum, keygen, keygen_seeds, migrate, replay, logs, twin, steer, trial, SpellsKeygen, SpellsTwin, SpellsSteer, SpellsWorkers, unsaid, said, SpellsTrial, Spells}
+use Rattle.dc_cli.specs.Commands.{Task, sum, keygen, keygen_seeds, migrate, replay, logs, twin, steer, station, hub, trial, SpellsKeygen, SpellsTwin, SpellsSteer, SpellsStation, SpellsHub, SpellsWorkers, unsaid, said, SpellsTrial, Spells}
 
 -- a name as a test of its truth
 name_is : (b : Bool) → IsTrue b → b ≡ true
@@ -73,6 +73,24 @@ steer_form words net u v wanted target q =
     let target_named : is_name target ≡ true = name_is (is_name target) names.target_is in
     rw (q.words_are, ends.words_are, second.words_are, names.words_are, net_named, ends.u_is, second.v_is, wanted_named, target_named) refl
 
+station_form : (words : List (List ℕ)) (addr : List ℕ) (id : ℕ) (keys stream : List ℕ) → SpellsStation words addr id keys stream → is_form (codes "station" ∷ words) ≡ true
+station_form words addr id keys stream q =
+    let player = q.player in
+    let files = player.files in
+    let addr_named : is_name addr ≡ true = name_is (is_name addr) q.addr_is in
+    let keys_named : is_name keys ≡ true = name_is (is_name keys) files.keys_is in
+    let stream_named : is_name stream ≡ true = name_is (is_name stream) files.stream_is in
+    rw (q.words_are, player.words_are, files.words_are, addr_named, player.id_is, keys_named, stream_named) refl
+
+hub_form : (words : List (List ℕ)) (addr : List ℕ) (stations count : ℕ) (target : List ℕ) → SpellsHub words addr stations count target → is_form (codes "hub" ∷ words) ≡ true
+hub_form words addr stations count target q =
+    let hosted = q.hosted in
+    let counted = hosted.length in
+    let named = counted.named in
+    let addr_named : is_name addr ≡ true = name_is (is_name addr) q.addr_is in
+    let target_named : is_name target ≡ true = name_is (is_name target) named.target_is in
+    rw (q.words_are, hosted.words_are, counted.words_are, named.words_are, addr_named, hosted.stations_are, counted.count_is, target_named) refl
+
 -- the words of a command are a form
 Spells-form : (words : List (List ℕ)) (command : Task) → Spells words command → is_form words ≡ true
 Spells-form words (sum file) p = let named : is_name file ≡ true = name_is (is_name file) p.1 in rw (p.0, named) refl
@@ -94,6 +112,8 @@ Spells-form words (replay net workers) p =
 Spells-form words (logs net) p = let named : is_name net ≡ true = name_is (is_name net) p.1 in rw (p.0, named) refl
 Spells-form words (twin net perm target) p = ap is_form p.1 ∙ twin_form p.0 net perm target p.2
 Spells-form words (steer net u v wanted target) p = ap is_form p.1 ∙ steer_form p.0 net u v wanted target p.2
+Spells-form words (station addr id keys stream) p = ap is_form p.1 ∙ station_form p.0 addr id keys stream p.2
+Spells-form words (hub addr stations count target) p = ap is_form p.1 ∙ hub_form p.0 addr stations count target p.2
 Spells-form words (trial seed stations count workers) p = ap is_form p.1 ∙ trial_form p.0 seed stations count workers p.2 p.2.workers_are
 
 pub not_both : (words : List (List ℕ)) (command : Task) → Spells words command → is_form words ≡ false → ⊥
@@ -178,6 +198,54 @@ same_steer words net u v wanted target net' u' v' wanted' target' p q =
     let targets : target ≡ target' = cc in
     cc
 
+-- the words of `station` spell one station
+same_station : (words : List (List ℕ)) (addr : List ℕ) (id : ℕ) (keys stream addr' : List ℕ) (id' : ℕ) (keys' stream' : List ℕ)
+    → SpellsStation words addr id keys stream → SpellsStation words addr' id' keys' stream' → station addr id keys stream ≡ station addr' id' keys' stream'
+same_station words addr id keys stream addr' id' keys' stream' p q =
+    let a = p.words_are in
+    let b = q.words_are in
+    let addresses : addr ≡ addr' = cc in
+    let rests : p.rest ≡ q.rest = cc in
+    let a_player = p.player.words_are in
+    let b_player = q.player.words_are in
+    let digits : p.player.digits ≡ q.player.digits = cc in
+    let later : p.player.rest ≡ q.player.rest = cc in
+    let a_id = p.player.id_is in
+    let b_id = q.player.id_is in
+    let ids : id ≡ id' = cc in
+    let a_files = p.player.files.words_are in
+    let b_files = q.player.files.words_are in
+    let key_files : keys ≡ keys' = cc in
+    let streams : stream ≡ stream' = cc in
+    cc
+
+-- the words of `hub` spell one hub
+same_hub : (words : List (List ℕ)) (addr : List ℕ) (stations count : ℕ) (target addr' : List ℕ) (stations' count' : ℕ) (target' : List ℕ)
+    → SpellsHub words addr stations count target → SpellsHub words addr' stations' count' target' → hub addr stations count target ≡ hub addr' stations' count' target'
+same_hub words addr stations count target addr' stations' count' target' p q =
+    let a = p.words_are in
+    let b = q.words_are in
+    let addresses : addr ≡ addr' = cc in
+    let rests : p.rest ≡ q.rest = cc in
+    let a_hosted = p.hosted.words_are in
+    let b_hosted = q.hosted.words_are in
+    let digits : p.hosted.digits ≡ q.hosted.digits = cc in
+    let later : p.hosted.rest ≡ q.hosted.rest = cc in
+    let a_stations = p.hosted.stations_are in
+    let b_stations = q.hosted.stations_are in
+    let among : stations ≡ stations' = cc in
+    let a_length = p.hosted.length.words_are in
+    let b_length = q.hosted.length.words_are in
+    let digits_of_count : p.hosted.length.digits ≡ q.hosted.length.digits = cc in
+    let last : p.hosted.length.rest ≡ q.hosted.length.rest = cc in
+    let a_count = p.hosted.length.count_is in
+    let b_count = q.hosted.length.count_is in
+    let counts : count ≡ count' = cc in
+    let a_name = p.hosted.length.named.words_are in
+    let b_name = q.hosted.length.named.words_are in
+    let targets : target ≡ target' = cc in
+    cc
+
 -- the first word
 first_word : List (List ℕ) → List ℕ
 first_word [] = []
@@ -193,6 +261,8 @@ verb_of (replay net workers) = codes "replay"
 verb_of (logs net) = codes "logs"
 verb_of (twin net perm target) = codes "twin"
 verb_of (steer net u v wanted target) = codes "steer"
+verb_of (station addr id keys stream) = codes "station"
+verb_of (hub addr stations count target) = codes "hub"
 verb_of (trial seed stations count workers) = codes "trial"
 
 Spells-verb : (words : List (List ℕ)) (command : Task) → Spells words command → first_word words ≡ verb_of command
@@ -205,6 +275,8 @@ Spells-verb words (replay net workers) p = ap first_word p.1
 Spells-verb words (logs net) p = ap first_word p.0
 Spells-verb words (twin net perm target) p = ap first_word p.1
 Spells-verb words (steer net u v wanted target) p = ap first_word p.1
+Spells-verb words (station addr id keys stream) p = ap first_word p.1
+Spells-verb words (hub addr stations count target) p = ap first_word p.1
 Spells-verb words (trial seed stations count workers) p = ap first_word p.1
 
 words_differ : (word other : List ℕ) → word ≡ other → bytes_eq word other ≡ false → ⊥
@@ -242,6 +314,10 @@ with_verb words (twin net perm target) (twin net' perm' target') e p q =
     same_twin q.0 net perm target net' perm' target' (rw (← same_rest words p.0 q.0 (codes "twin") p.1 q.1) p.2) q.2
 with_verb words (steer net u v wanted target) (steer net' u' v' wanted' target') e p q =
     same_steer q.0 net u v wanted target net' u' v' wanted' target' (rw (← same_rest words p.0 q.0 (codes "steer") p.1 q.1) p.2) q.2
+with_verb words (station addr id keys stream) (station addr' id' keys' stream') e p q =
+    same_station q.0 addr id keys stream addr' id' keys' stream' (rw (← same_rest words p.0 q.0 (codes "station") p.1 q.1) p.2) q.2
+with_verb words (hub addr stations count target) (hub addr' stations' count' target') e p q =
+    same_hub q.0 addr stations count target addr' stations' count' target' (rw (← same_rest words p.0 q.0 (codes "hub") p.1 q.1) p.2) q.2
 with_verb words (trial seed stations count workers) (trial seed' stations' count' workers') e p q =
     same_trial q.0 seed stations count workers seed' stations' count' workers' (rw (← same_rest words p.0 q.0 (codes "trial") p.1 q.1) p.2) q.2
 with_verb words (sum file) other e p q = absurd (words_differ (verb_of (sum file)) (verb_of other) e refl)
@@ -252,6 +328,8 @@ with_verb words (replay net workers) other e p q = absurd (words_differ (verb_of
 with_verb words (logs net) other e p q = absurd (words_differ (verb_of (logs net)) (verb_of other) e refl)
 with_verb words (twin net perm target) other e p q = absurd (words_differ (verb_of (twin net perm target)) (verb_of other) e refl)
 with_verb words (steer net u v wanted target) other e p q = absurd (words_differ (verb_of (steer net u v wanted target)) (verb_of other) e refl)
+with_verb words (station addr id keys stream) other e p q = absurd (words_differ (verb_of (station addr id keys stream)) (verb_of other) e refl)
+with_verb words (hub addr stations count target) other e p q = absurd (words_differ (verb_of (hub addr stations count target)) (verb_of other) e refl)
 with_verb words (trial seed stations count workers) other e p q = absurd (words_differ (verb_of (trial seed stations count workers)) (verb_of other) e refl)
 
 -- the words spell one command

@@ -12,7 +12,7 @@ use Rattle.dc_net_files.specs.Settled.{AreHeld}
 use Rattle.dc_cli.specs.Altering.{Altered, misread, refused, altered, Alteration}
 use Rattle.dc_cli.specs.Twinning.{twinning}
 use Rattle.dc_cli.specs.Steering.{steering}
-use Rattle.dc_cli.specs.Commands.{Task, sum, keygen, keygen_seeds, migrate, replay, logs, twin, steer, trial, Spells}
+use Rattle.dc_cli.specs.Commands.{Task, sum, keygen, keygen_seeds, migrate, replay, logs, twin, steer, station, hub, trial, Spells}
 use Rattle.dc_cli.specs.Promises.{Call}
 use Rattle.dc_cli.specs.declared.outcome.CommandFault.{CommandFault}
 use Rattle.dc_cli.specs.declared.outcome.FileFault.TheVariants as kinds
@@ -28,6 +28,8 @@ alteration_of (replay net workers) = None
 alteration_of (logs net) = None
 alteration_of (twin net perm target) = Some (net, twinning perm target)
 alteration_of (steer net u v wanted target) = Some (net, steering u v wanted target)
+alteration_of (station addr id keys stream) = None
+alteration_of (hub addr stations count target) = None
 alteration_of (trial seed stations count workers) = None
 
 -- The net that the files of a manifest make, and what the list makes of it: each file is needed after those before it, and all have the

@@ -1,9 +1,9 @@
 -- Commands, and the words that spell them.
 use Rattle.std.specs.Prelude.{ℕ, ◌+◌, ◌*◌, ◌≤◌, ◌≡◌, false, List, [], ◌∷◌, ◌++◌, slice_index_or, codes, IsTrue, Some, Result, Ok, Err}
 use Rattle.dc_spec.specs.Limits.{most_stations, most_words}
-use Rattle.dc_cli.specs.Forms.{Slot, literal, name, number, keygen_slots, seeds_slots, twin_slots, second_slots, ends_slots, steer_slots, workers_slots, most_words_of, words_slots, stations_slots, trial_slots, is_name, seed_in, number_between, begun, spells, is_form, longest_begun}
+use Rattle.dc_cli.specs.Forms.{Slot, literal, name, number, keygen_slots, seeds_slots, twin_slots, second_slots, ends_slots, steer_slots, player_slots, station_slots, length_slots, hosted_slots, hub_slots, workers_slots, most_words_of, words_slots, stations_slots, trial_slots, is_name, seed_in, number_between, begun, spells, is_form, longest_begun}
 use Rattle.dc_cli.specs.declared.command.Command.{Command}
-use Rattle.dc_cli.specs.declared.command.Command.TheVariants.{Sum, Keygen, KeygenSeeds, Migrate, Replay, Logs, Twin, Steer, Trial}
+use Rattle.dc_cli.specs.declared.command.Command.TheVariants.{Sum, Keygen, KeygenSeeds, Migrate, Replay, Logs, Twin, Steer, Station, Hub, Trial}
 
 -- a command with its arguments
 pub data Task : Type 0 where
@@ -15,6 +15,8 @@ pub data Task : Type 0 where
   logs : List ℕ → Task
   twin : List ℕ → List ℕ → List ℕ → Task
   steer : List ℕ → ℕ → ℕ → List ℕ → List ℕ → Task
+  station : List ℕ → ℕ → List ℕ → List ℕ → Task
+  hub : List ℕ → ℕ → ℕ → List ℕ → Task
   trial : ℕ → ℕ → ℕ → ℕ → Task
 
 -- the words spell a seed, the name of a manifest and the name of the key file that is written, and these are left
@@ -73,6 +75,55 @@ pub record SpellsSteer (words : List (List ℕ)) (net : List ℕ) (u v : ℕ) (w
   pub net_is : IsTrue (is_name net)
   pub ends : SpellsEnds rest u v wanted target
 
+-- the words spell two names: of a key file and of a stream
+pub record SpellsFiles (words : List (List ℕ)) (keys stream : List ℕ) : Type 0 where
+  pub words_are : words ≡ keys ∷ stream ∷ []
+  pub keys_is : IsTrue (is_name keys)
+  pub stream_is : IsTrue (is_name stream)
+
+-- the words spell a station, and the names of its files
+pub record SpellsPlayer (words : List (List ℕ)) (id : ℕ) (keys stream : List ℕ) : Type 0 where
+  pub digits : List ℕ
+  pub rest : List (List ℕ)
+  pub words_are : words ≡ digits ∷ rest
+  pub id_is : number_between 0 255 digits ≡ Some id
+  pub files : SpellsFiles rest keys stream
+
+-- the words spell an address, a station, and the names of its files
+pub record SpellsStation (words : List (List ℕ)) (addr : List ℕ) (id : ℕ) (keys stream : List ℕ) : Type 0 where
+  pub rest : List (List ℕ)
+  pub words_are : words ≡ addr ∷ rest
+  pub addr_is : IsTrue (is_name addr)
+  pub player : SpellsPlayer rest id keys stream
+
+-- the words spell the name of a transcript
+pub record SpellsTarget (words : List (List ℕ)) (target : List ℕ) : Type 0 where
+  pub words_are : words ≡ target ∷ []
+  pub target_is : IsTrue (is_name target)
+
+-- the words spell a number of words, and that name
+pub record SpellsLength (words : List (List ℕ)) (count : ℕ) (target : List ℕ) : Type 0 where
+  pub digits : List ℕ
+  pub rest : List (List ℕ)
+  pub words_are : words ≡ digits ∷ rest
+  pub count_is : number_between 1 most_words digits ≡ Some count
+  pub named : SpellsTarget rest target
+
+-- the words spell a number of stations, and these after it
+pub record SpellsHosted (words : List (List ℕ)) (stations count : ℕ) (target : List ℕ) : Type 0 where
+  pub digits : List ℕ
+  pub rest : List (List ℕ)
+  pub words_are : words ≡ digits ∷ rest
+  pub stations_are : number_between 1 most_stations digits ≡ Some stations
+  pub length : SpellsLength rest count target
+
+-- the words spell an address, and these after it
+pub record SpellsHub (words : List (List ℕ)) (addr : List ℕ) (stations count : ℕ) (target : List ℕ) : Type 0 where
+  pub rest : List (List ℕ)
+  pub words_are : words ≡ addr ∷ rest
+  pub addr_is : IsTrue (is_name addr)
+  pub hosted : SpellsHosted rest stations count target
+
 -- the words spell the numbers of a trial: its seed, stations and words, and the workers
 pub record SpellsTrial (words : List (List ℕ)) (seed stations count workers : ℕ) : Type 0 where
   pub of_seed : List ℕ
@@ -95,6 +146,8 @@ Spells words (replay net workers) = (rest : List (List ℕ)) × (words ≡ codes
 Spells words (logs net) = (words ≡ codes "logs" ∷ net ∷ []) × IsTrue (is_name net)
 Spells words (twin net perm target) = (rest : List (List ℕ)) × (words ≡ codes "twin" ∷ rest) × SpellsTwin rest net perm target
 Spells words (steer net u v wanted target) = (rest : List (List ℕ)) × (words ≡ codes "steer" ∷ rest) × SpellsSteer rest net u v wanted target
+Spells words (station addr id keys stream) = (rest : List (List ℕ)) × (words ≡ codes "station" ∷ rest) × SpellsStation rest addr id keys stream
+Spells words (hub addr stations count target) = (rest : List (List ℕ)) × (words ≡ codes "hub" ∷ rest) × SpellsHub rest addr stations count target
 Spells words (trial seed stations count workers) = (rest : List (List ℕ)) × (words ≡ codes "trial" ∷ rest) × SpellsTrial rest seed stations count workers
 
 -- the command that was read
@@ -107,6 +160,8 @@ task_of (Replay net workers) = replay net.now workers
 task_of (Logs net) = logs net.now
 task_of (Twin net perm target) = twin net.now perm.now target.now
 task_of (Steer net u v wanted target) = steer net.now u v wanted.now target.now
+task_of (Station addr id keys stream) = station addr.now id keys.now stream.now
+task_of (Hub addr stations words target) = hub addr.now stations words target.now
 task_of (Trial seed stations words workers) = trial seed stations words workers
 
 -- the words were read as the command that they spell, or are not a form
@@ -200,6 +255,48 @@ ReadsAsWanted net u v words (Ok (Steer named seen other wanted target)) =
 ReadsAsWanted net u v words (Ok _) = ⊥
 ReadsAsWanted net u v words (Err place) = (spells (name ∷ name ∷ []) words ≡ false) × (place ≡ 4 + begun (name ∷ name ∷ []) words)
 
+-- the words after `station` were read, or do not fit
+abbrev pub ReadsAsStation : List (List ℕ) → Result Command ℕ → Type 0
+ReadsAsStation words (Ok (Station addr id keys stream)) = SpellsStation words addr.now id keys.now stream.now
+ReadsAsStation words (Ok _) = ⊥
+ReadsAsStation words (Err place) = (spells station_slots words ≡ false) × (place ≡ 1 + begun station_slots words)
+
+-- the words after the address of `station` were read, or do not fit
+abbrev pub ReadsAsPlayer : List ℕ → List (List ℕ) → Result Command ℕ → Type 0
+ReadsAsPlayer addr words (Ok (Station at id keys stream)) = (at.now ≡ addr) × SpellsPlayer words id keys.now stream.now
+ReadsAsPlayer addr words (Ok _) = ⊥
+ReadsAsPlayer addr words (Err place) = (spells player_slots words ≡ false) × (place ≡ 2 + begun player_slots words)
+
+-- the words after the number of `station` were read, or do not fit
+abbrev pub ReadsAsFiles : List ℕ → ℕ → List (List ℕ) → Result Command ℕ → Type 0
+ReadsAsFiles addr id words (Ok (Station at seen keys stream)) = (at.now ≡ addr) × (seen ≡ id) × SpellsFiles words keys.now stream.now
+ReadsAsFiles addr id words (Ok _) = ⊥
+ReadsAsFiles addr id words (Err place) = (spells (name ∷ name ∷ []) words ≡ false) × (place ≡ 3 + begun (name ∷ name ∷ []) words)
+
+-- the words after `hub` were read, or do not fit
+abbrev pub ReadsAsHub : List (List ℕ) → Result Command ℕ → Type 0
+ReadsAsHub words (Ok (Hub addr stations count target)) = SpellsHub words addr.now stations count target.now
+ReadsAsHub words (Ok _) = ⊥
+ReadsAsHub words (Err place) = (spells hub_slots words ≡ false) × (place ≡ 1 + begun hub_slots words)
+
+-- the words after the address of `hub` were read, or do not fit
+abbrev pub ReadsAsHosted : List ℕ → List (List ℕ) → Result Command ℕ → Type 0
+ReadsAsHosted addr words (Ok (Hub at stations count target)) = (at.now ≡ addr) × SpellsHosted words stations count target.now
+ReadsAsHosted addr words (Ok _) = ⊥
+ReadsAsHosted addr words (Err place) = (spells hosted_slots words ≡ false) × (place ≡ 2 + begun hosted_slots words)
+
+-- the words after the number of stations of `hub` were read, or do not fit
+abbrev pub ReadsAsLength : List ℕ → ℕ → List (List ℕ) → Result Command ℕ → Type 0
+ReadsAsLength addr stations words (Ok (Hub at seen count target)) = (at.now ≡ addr) × (seen ≡ stations) × SpellsLength words count target.now
+ReadsAsLength addr stations words (Ok _) = ⊥
+ReadsAsLength addr stations words (Err place) = (spells length_slots words ≡ false) × (place ≡ 3 + begun length_slots words)
+
+-- the words after both numbers of `hub` were read as a name, or do not fit
+abbrev pub ReadsAsTarget : List ℕ → ℕ → ℕ → List (List ℕ) → Result Command ℕ → Type 0
+ReadsAsTarget addr stations count words (Ok (Hub at seen of target)) = (at.now ≡ addr) × (seen ≡ stations) × (of ≡ count) × SpellsTarget words target.now
+ReadsAsTarget addr stations count words (Ok _) = ⊥
+ReadsAsTarget addr stations count words (Err place) = (spells (name ∷ []) words ≡ false) × (place ≡ 4 + begun (name ∷ []) words)
+
 -- the last words, after so many others, were read as a number of workers, or do not fit
 abbrev pub ReadsAsWorkers : ℕ → List (List ℕ) → Result ℕ ℕ → Type 0
 ReadsAsWorkers before words (Ok workers) = SpellsWorkers words workers
@@ -254,6 +351,7 @@ ReadsAsTrial words (Err place) = FitsNot 1 (trial_slots (slice_index_or words 1 
 -- the numbers of a command are within their limits
 abbrev pub IsRunnable : Task → Type 0
 IsRunnable (replay net workers) = (1 ≤ workers) × (workers ≤ 64)
+IsRunnable (hub addr stations count target) = (1 ≤ stations) × (stations ≤ most_stations) × (1 ≤ count) × (count ≤ most_words)
 IsRunnable (trial seed stations count workers) =
     (1 ≤ stations) × (stations ≤ most_stations) × (1 ≤ count) × (count ≤ most_words) × (stations * count ≤ 524288) × (1 ≤ workers) × (workers ≤ 64)
 IsRunnable _ = Unit {0}

@@ -78,6 +78,23 @@ ends_slots = number 0 255 ∷ second_slots
 abbrev pub steer_slots : List Slot
 steer_slots = name ∷ ends_slots
 
+-- what stands after `station`: an address, a station, the names of a key file and of a stream
+abbrev pub player_slots : List Slot
+player_slots = number 0 255 ∷ name ∷ name ∷ []
+
+abbrev pub station_slots : List Slot
+station_slots = name ∷ player_slots
+
+-- what stands after `hub`: an address, a number of stations, a number of words, the name of the transcript
+abbrev pub length_slots : List Slot
+length_slots = number 1 most_words ∷ name ∷ []
+
+abbrev pub hosted_slots : List Slot
+hosted_slots = number 1 most_stations ∷ length_slots
+
+abbrev pub hub_slots : List Slot
+hub_slots = name ∷ hosted_slots
+
 -- the option that gives a number of workers
 abbrev pub workers_slots : List Slot
 workers_slots = literal (codes "--workers") ∷ number 1 64 ∷ []
@@ -113,6 +130,8 @@ forms words =
     ∷ (literal (codes "logs") ∷ name ∷ [])
     ∷ (literal (codes "twin") ∷ twin_slots)
     ∷ (literal (codes "steer") ∷ steer_slots)
+    ∷ (literal (codes "station") ∷ station_slots)
+    ∷ (literal (codes "hub") ∷ hub_slots)
     ∷ (literal (codes "trial") ∷ trial_slots stations)
     ∷ (literal (codes "trial") ∷ trial_slots stations ++ workers_slots)
     ∷ []

@@ -4,6 +4,7 @@ pub mod KeyFaultText
 pub mod ManifestFaultText
 pub mod NetFaultTexts
 pub mod RefusalTexts
+pub mod PeerFaultText
 pub mod Lines
 pub mod Forms
 pub mod Commands
@@ -17,8 +18,12 @@ pub mod Replaying
 pub mod Altering
 pub mod Twinning
 pub mod Steering
+pub mod Sessions
+pub mod Playing
+pub mod Hosting
 pub mod Trials
 pub mod Ran
 pub mod Promises
+pub mod LivePromises
 pub mod Alterations
 pub mod Theorems

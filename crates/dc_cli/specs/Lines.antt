@@ -5,6 +5,7 @@ use Rattle.dc_superpose.specs.declared.fault.TranscriptFault.{TranscriptFault}
 use Rattle.dc_superpose.specs.declared.fault.TranscriptFault.TheVariants.{Truncated, Magic, Stations, Words, Symbol, Rest}
 use Rattle.dc_cli.specs.Pieces.{numbered}
 use Rattle.dc_cli.specs.KeyFaultText.{key_fault_text}
+use Rattle.dc_cli.specs.PeerFaultText.{peer_text}
 use Rattle.dc_cli.specs.ManifestFaultText.{manifest_fault_text}
 use Rattle.dc_cli.specs.NetFaultTexts.{stream_fault_text, script_fault_text, net_fault_text}
 use Rattle.dc_cli.specs.RefusalTexts.{list_fault_text, command_fault_text}
@@ -12,7 +13,7 @@ use Rattle.dc_cli.specs.declared.outcome.FileFault.{FileFault}
 use Rattle.dc_cli.specs.declared.outcome.FileFault.TheVariants.{Transcript, Keys, Manifest, Stream, Script}
 use Rattle.dc_cli.specs.declared.outcome.FileFault.TheVariants as files
 use Rattle.dc_cli.specs.declared.outcome.Outcome.{Outcome}
-use Rattle.dc_cli.specs.declared.outcome.Outcome.TheVariants.{Done, Usage, Missing, TooLong, Malformed, Disagree, Refused, ShelfFault, SinkFault, NoMemory}
+use Rattle.dc_cli.specs.declared.outcome.Outcome.TheVariants.{Done, Usage, Missing, TooLong, Malformed, Disagree, Refused, ShelfFault, SinkFault, WireFault, Peer, NoMemory}
 
 -- a fault of a transcript: its name, then its fields
 abbrev pub transcript_fault_text : TranscriptFault → List ℕ
@@ -43,6 +44,8 @@ outcome_text (Disagree fault) = codes "files disagree: " ++ net_fault_text fault
 outcome_text (Refused fault) = codes "refused: " ++ command_fault_text fault
 outcome_text ShelfFault = codes "file fault"
 outcome_text SinkFault = codes "output fault"
+outcome_text WireFault = codes "wire fault"
+outcome_text (Peer peer fault) = peer_text peer fault
 outcome_text NoMemory = codes "no memory"
 
 -- the line of an outcome that is not `Done`

@@ -1,6 +1,6 @@
 -- The promises of a call in its reader's words; each follows from what the call did by its outcome.
 use Rattle.std.specs.Prelude.{String, ℕ, ◌≡◌, ◌≤◌, ◌⊎◌, List, [], ◌∷◌, ◌++◌, length, All, false, Option, Some, None, Ok, Err}
-use Rattle.dc_spec.specs.Outside.{ShelfState, SinkState, absent, held, Rose, Tells, grown, IsFront}
+use Rattle.dc_spec.specs.Outside.{ShelfState, SinkState, WireState, absent, held, Rose, Tells, grown, IsFront}
 use Rattle.dc_spec.specs.Limits.{transcript_limit, manifest_limit, key_file_limit, permutation_limit, wanted_words_limit}
 use Rattle.dc_spec.specs.Pads.{Keys}
 use Rattle.dc_spec.specs.Recorded.{Recorded, IsRecorded, transcript_bytes, superposed}
@@ -15,8 +15,9 @@ use Rattle.dc_manifest.specs.Reading.{manifest_of}
 use Rattle.dc_superpose.specs.Reading.{transcript_of}
 use Rattle.dc_superpose.specs.declared.fault.TranscriptFault.{TranscriptFault}
 use Rattle.dc_spec.specs.Net.{Net}
-use Rattle.dc_net_files.specs.Steps.{File, Step, needs, makes, names_of, bytes_of}
+use Rattle.dc_net_files.specs.Steps.{File, Step, Reader, needs, makes, names_of, bytes_of}
 use Rattle.dc_net_files.specs.Parts.{net_step}
+use Rattle.dc_net_files.specs.Station.{station_step}
 use Rattle.dc_net_files.specs.Reading.{AreNeeded}
 use Rattle.dc_net_files.specs.Settled.{AreHeld}
 use Rattle.dc_run_texts.specs.View.{view_text}
@@ -26,49 +27,72 @@ use Rattle.dc_net.specs.TrialNets.{trial_net}
 use Rattle.dc_net_rules.specs.Runs.{run_of}
 use Rattle.dc_cli.specs.Trials.{summary_of, CountsAll}
 use Rattle.dc_cli.specs.Forms.{texts, is_form, longest_begun}
-use Rattle.dc_cli.specs.Commands.{Task, sum, keygen, keygen_seeds, migrate, replay, logs, twin, steer, trial, Spells}
+use Rattle.dc_cli.specs.Commands.{Task, sum, keygen, keygen_seeds, migrate, replay, logs, twin, steer, station, hub, trial, Spells}
 use Rattle.dc_cli.specs.Summing.{Refused}
 use Rattle.dc_cli.specs.Making.{Making}
 use Rattle.dc_cli.specs.Keygen.{keygen_making}
 use Rattle.dc_cli.specs.KeygenSeeds.{seeds_making}
 use Rattle.dc_cli.specs.Migrating.{migrate_making}
 use Rattle.dc_cli.specs.declared.outcome.Outcome.{Outcome}
-use Rattle.dc_cli.specs.declared.outcome.Outcome.TheVariants.{Done, Usage, Missing, TooLong, Malformed, ShelfFault, SinkFault, NoMemory}
+use Rattle.dc_cli.specs.declared.outcome.Outcome.TheVariants.{Done, Usage, Missing, TooLong, Malformed, ShelfFault, SinkFault, WireFault, NoMemory}
 use Rattle.dc_cli.specs.declared.outcome.FileFault.{FileFault}
 use Rattle.dc_cli.specs.declared.outcome.FileFault.TheVariants.{Transcript}
 
--- the states of the shelf and of the output before and after a call, and its outcome
+-- the states of the shelf, of the output and of the wire before and after a call, and its outcome
 pub record Call : Type 0 where
   pub words : List (List ℕ)
   pub shelf : ShelfState
   pub shelf' : ShelfState
   pub out : SinkState
   pub out' : SinkState
+  pub wire : WireState
+  pub wire' : WireState
   pub outcome : Outcome
 
--- a call: how the states of a shelf and of a sink are seen, the words, both objects before and after, and the outcome
-abbrev pub call : {F K A : Type 0} → (F → ShelfState) → (K → SinkState) → List (String A) → F → F → K → K → Outcome → Call
-call shelf_state sink_state words shelf shelf' out out' outcome =
-    record { words = texts words; shelf = shelf_state shelf; shelf' = shelf_state shelf'; out = sink_state out; out' = sink_state out'; outcome = outcome }
+-- a call: how the states of a shelf, of a sink and of a wire are seen, the words, these objects before and after, and the outcome
+abbrev pub call : {F K W A : Type 0} → (F → ShelfState) → (K → SinkState) → (W → WireState) → List (String A) → F → F → K → K → W → W → Outcome → Call
+call shelf_state sink_state wire_state words shelf shelf' out out' wire wire' outcome = record {
+  words = texts words;
+  shelf = shelf_state shelf;
+  shelf' = shelf_state shelf';
+  out = sink_state out;
+  out' = sink_state out';
+  wire = wire_state wire;
+  wire' = wire_state wire';
+  outcome = outcome;
+}
 
 -- the name of the file that a step needs
 abbrev pub next_name : {A : Type 0} → Step A → List (List ℕ)
 next_name (needs name limit) = name ∷ []
 next_name _ = []
 
--- names of the files of a net: each is needed after those before it, which have the bytes that the shelf reports
-pub record NamesOfNet (net : List ℕ) (shelf : ShelfState) (names : List (List ℕ)) : Type 0 where
+-- names of the files of a reader: each is needed after those before it, which have the bytes that the shelf reports
+pub record NamesOf {A : Type 0} (reader : Reader A) (shelf : ShelfState) (names : List (List ℕ)) : Type 0 where
   pub files : List File
-  pub needed : AreNeeded (net_step net) files
+  pub needed : AreNeeded reader files
   pub told : All (λ file. Tells (shelf.holds file.name) file.bytes) files
-  pub names_are : names ≡ names_of files ++ next_name (net_step net (bytes_of files))
+  pub names_are : names ≡ names_of files ++ next_name (reader (bytes_of files))
 
--- a file of a net that is needed within this limit, after files that have the bytes that the shelf reports
-pub record NeedsOfNet (net : List ℕ) (shelf : ShelfState) (name : List ℕ) (limit : ℕ) : Type 0 where
+-- a file that a reader needs within this limit, after files that have the bytes that the shelf reports
+pub record NeedsOf {A : Type 0} (reader : Reader A) (shelf : ShelfState) (name : List ℕ) (limit : ℕ) : Type 0 where
   pub files : List File
-  pub needed : AreNeeded (net_step net) files
+  pub needed : AreNeeded reader files
   pub told : All (λ file. Tells (shelf.holds file.name) file.bytes) files
-  pub next : net_step net (bytes_of files) ≡ needs name limit
+  pub next : reader (bytes_of files) ≡ needs name limit
+
+-- the files of a net, and those of a station
+abbrev pub NamesOfNet : List ℕ → ShelfState → List (List ℕ) → Type 0
+NamesOfNet net shelf names = NamesOf (net_step net) shelf names
+
+abbrev pub NeedsOfNet : List ℕ → ShelfState → List ℕ → ℕ → Type 0
+NeedsOfNet net shelf name limit = NeedsOf (net_step net) shelf name limit
+
+abbrev pub NamesOfStation : List ℕ → List ℕ → ShelfState → List (List ℕ) → Type 0
+NamesOfStation keys stream shelf names = NamesOf (station_step keys stream) shelf names
+
+abbrev pub NeedsOfStation : List ℕ → List ℕ → ShelfState → List ℕ → ℕ → Type 0
+NeedsOfStation keys stream shelf name limit = NeedsOf (station_step keys stream) shelf name limit
 
 -- the names that are asked for after a step: that of the file that it needs, or these where it makes something
 abbrev pub names_after : {A : Type 0} → List (List ℕ) → Step A → List (List ℕ)
@@ -93,6 +117,8 @@ AsksFor shelf (replay net workers) files = NamesOfNet net shelf files
 AsksFor shelf (logs net) files = NamesOfNet net shelf files
 AsksFor shelf (twin net perm target) files = NamesOfAlteration net perm target shelf files
 AsksFor shelf (steer net u v wanted target) files = NamesOfAlteration net wanted target shelf files
+AsksFor shelf (station addr id keys stream) files = NamesOfStation keys stream shelf files
+AsksFor shelf (hub addr stations count target) files = files ≡ target ∷ []
 AsksFor shelf (trial seed stations count workers) files = files ≡ []
 
 -- words that are not a form are refused, and no others are
@@ -121,6 +147,8 @@ Leaves (replay net workers) outcome before after = after.holds ≡ before.holds
 Leaves (logs net) outcome before after = after.holds ≡ before.holds
 Leaves (twin net perm target) outcome before after = LeavesAltered target outcome before after
 Leaves (steer net u v wanted target) outcome before after = LeavesAltered target outcome before after
+Leaves (station addr id keys stream) outcome before after = after.holds ≡ before.holds
+Leaves (hub addr stations count target) outcome before after = LeavesAltered target outcome before after
 Leaves (trial seed stations count workers) outcome before after = after.holds ≡ before.holds
 
 -- each file stays, unless the command of the words writes it
@@ -161,6 +189,8 @@ HasLimit shelf (replay net workers) name limit = NeedsOfNet net shelf name limit
 HasLimit shelf (logs net) name limit = NeedsOfNet net shelf name limit
 HasLimit shelf (twin net perm target) name limit = NeedsOfNet net shelf name limit ⊎ ((name ≡ perm) × (limit ≡ permutation_limit))
 HasLimit shelf (steer net u v wanted target) name limit = NeedsOfNet net shelf name limit ⊎ ((name ≡ wanted) × (limit ≡ wanted_words_limit))
+HasLimit shelf (station addr id keys stream) name limit = NeedsOfStation keys stream shelf name limit
+HasLimit shelf (hub addr stations count target) name limit = ⊥
 HasLimit shelf (trial seed stations count workers) name limit = ⊥
 
 -- the outcome reports a name
@@ -194,6 +224,7 @@ RefusesTheMalformed c = (file bytes : List ℕ) → (fault : TranscriptFault) �
 pub record HasCauses (c : Call) : Type 0 where
   pub shelf : c.outcome ≡ ShelfFault → Rose c.shelf.faults c.shelf'.faults
   pub sink : c.outcome ≡ SinkFault → Rose c.out.faults c.out'.faults
+  pub wire : c.outcome ≡ WireFault → Rose c.wire.faults c.wire'.faults
 
 -- where the shelf holds the transcript of a session under the name and no count of faults rose, all is done, or memory ran out
 abbrev pub Completes : Call → Type 0
@@ -226,6 +257,8 @@ making_of (replay net workers) = None
 making_of (logs net) = None
 making_of (twin net perm target) = None
 making_of (steer net u v wanted target) = None
+making_of (station addr id keys stream) = None
+making_of (hub addr stations count target) = None
 making_of (trial seed stations count workers) = None
 
 -- each of these makes its file

@@ -5,7 +5,7 @@ use Rattle.dc_edge.specs.Shelf.{Reads}
 use Rattle.dc_edge.specs.declared.fault.ShelfFault.TheVariants as faults
 use Rattle.dc_cli.specs.declared.outcome.FileFault.{FileFault}
 use Rattle.dc_cli.specs.declared.outcome.Outcome.{Outcome}
-use Rattle.dc_cli.specs.declared.outcome.Outcome.TheVariants.{Done, Usage, Missing, TooLong, Malformed, Disagree, Refused, ShelfFault, SinkFault, NoMemory}
+use Rattle.dc_cli.specs.declared.outcome.Outcome.TheVariants.{Done, Usage, Missing, TooLong, Malformed, Disagree, Refused, ShelfFault, SinkFault, WireFault, Peer, NoMemory}
 
 -- memory ran out before the name was asked for, and nothing changed
 abbrev pub Unasked : ShelfState → ShelfState → Type 0
@@ -24,6 +24,8 @@ ReadsFile file limit before after (Err (Disagree fault)) = ⊥
 ReadsFile file limit before after (Err (Refused fault)) = ⊥
 ReadsFile file limit before after (Err (Malformed name fault)) = ⊥
 ReadsFile file limit before after (Err SinkFault) = ⊥
+ReadsFile file limit before after (Err WireFault) = ⊥
+ReadsFile file limit before after (Err (Peer who fault)) = ⊥
 
 -- the shelf was asked for the file alone and gave bytes within the limit, of which this holds
 pub record GaveBytes (file : List ℕ) (limit : ℕ) (before after : ShelfState) (Holds : List ℕ → Type 0) : Type 0 where

@@ -3,7 +3,7 @@
 ghost use Rattle.std.specs.Prelude.{◌≡◌, ◌≤◌, ◌∷◌};
 ghost use Rattle.dc_spec.specs.Limits.{most_stations};
 ghost use Rattle.dc_cli.specs.Forms.{texts, is_name as name_test, seed_in, number_between, most_words_of};
-ghost use Rattle.dc_cli.specs.Commands.{ReadsAs, ReadsAsFile, ReadsAsKeygen, ReadsAsNames, ReadsAsFlag, ReadsAsMigrate, ReadsAsReplay, ReadsAsLogs, ReadsAsTwin, ReadsAsSteer, ReadsAsEnds, ReadsAsSecond, ReadsAsWanted, ReadsAsTrial, ReadsAsStations, ReadsAsWords, ReadsAsWorkers, ReadsAsCount};
+ghost use Rattle.dc_cli.specs.Commands.{ReadsAsStation, ReadsAsPlayer, ReadsAsFiles, ReadsAsHub, ReadsAsHosted, ReadsAsLength, ReadsAsTarget, ReadsAs, ReadsAsFile, ReadsAsKeygen, ReadsAsNames, ReadsAsFlag, ReadsAsMigrate, ReadsAsReplay, ReadsAsLogs, ReadsAsTwin, ReadsAsSteer, ReadsAsEnds, ReadsAsSecond, ReadsAsWanted, ReadsAsTrial, ReadsAsStations, ReadsAsWords, ReadsAsWorkers, ReadsAsCount};
 
 use dc_field::read_decimal;
 use dc_text::{Digits, decode_payload, payload_length};
@@ -56,6 +56,20 @@ pub enum Command<'a> {
         wanted: &'a str,
         target: &'a str,
     },
+    /// Plays station `id`, 0 to 255, with the hub at an address, and prints the station's log.
+    Station {
+        addr: &'a str,
+        id: u16,
+        keys: &'a str,
+        stream: &'a str,
+    },
+    /// Runs the hub of 1 to 256 stations and 1 to 4096 words at an address, writes the transcript, and prints the superposed words.
+    Hub {
+        addr: &'a str,
+        stations: u16,
+        words: u16,
+        target: &'a str,
+    },
     /// Prints the summary of the run of the net of a seed and of 1 to 256 stations and 1 to 4096 words, computed by 1 to 64
     /// workers.
     Trial {
@@ -87,6 +101,8 @@ fn command_with<'a>(verb: &str, rest: &'a [String]) -> Result<Command<'a>, u32>
         "logs" => logs_of(rest),
         "twin" => twin_of(rest),
         "steer" => steer_of(rest),
+        "station" => player_of(rest),
+        "hub" => hub_of(rest),
         "trial" => trial_of(rest),
         _ => Err(0),
     }
@@ -255,6 +271,98 @@ fn steer_between<'a>(net: &'a str, u: u16, v: u16, names: &'a [String]) -> Resul
         }
         [wanted, target, _, ..] if is_name(wanted.as_str()) && is_name(target.as_str()) => Err(6),
         [wanted, ..] if is_name(wanted.as_str()) => Err(5),
+        _ => Err(4),
+    }
+}
+
+fn player_of(rest: &[String]) -> Result<Command<'_>, u32>
+    ensures { ReadsAsStation (texts rest.now) result }
+{
+    match rest {
+        [addr, player @ ..] if is_name(addr.as_str()) => player_at(addr.as_str(), player),
+        _ => Err(1),
+    }
+}
+
+fn player_at<'a>(addr: &'a str, rest: &'a [String]) -> Result<Command<'a>, u32>
+    ensures { ReadsAsPlayer addr.now (texts rest.now) result }
+{
+    match rest {
+        [digits, names @ ..] => match station_of(digits.as_str()) {
+            Some(id) => player_with(addr, id, names),
+            None => Err(2),
+        },
+        _ => Err(2),
+    }
+}
+
+fn player_with<'a>(addr: &'a str, id: u16, names: &'a [String]) -> Result<Command<'a>, u32>
+    ensures { ReadsAsFiles addr.now id (texts names.now) result }
+{
+    match names {
+        [keys, stream] if is_name(keys.as_str()) && is_name(stream.as_str()) => {
+            Ok(Command::Station {
+                addr,
+                id,
+                keys: keys.as_str(),
+                stream: stream.as_str(),
+            })
+        }
+        [keys, stream, _, ..] if is_name(keys.as_str()) && is_name(stream.as_str()) => Err(5),
+        [keys, ..] if is_name(keys.as_str()) => Err(4),
+        _ => Err(3),
+    }
+}
+
+fn hub_of(rest: &[String]) -> Result<Command<'_>, u32>
+    ensures { ReadsAsHub (texts rest.now) result }
+{
+    match rest {
+        [addr, session @ ..] if is_name(addr.as_str()) => hub_at(addr.as_str(), session),
+        _ => Err(1),
+    }
+}
+
+fn hub_at<'a>(addr: &'a str, rest: &'a [String]) -> Result<Command<'a>, u32>
+    ensures { ReadsAsHosted addr.now (texts rest.now) result }
+{
+    match rest {
+        [digits, more @ ..] => match small_number_of(digits.as_str(), 256) {
+            Some(stations) => hub_among(addr, stations, more),
+            None => Err(2),
+        },
+        _ => Err(2),
+    }
+}
+
+fn hub_among<'a>(addr: &'a str, stations: u16, rest: &'a [String]) -> Result<Command<'a>, u32>
+    ensures { ReadsAsLength addr.now stations (texts rest.now) result }
+{
+    match rest {
+        [digits, more @ ..] => match small_number_of(digits.as_str(), 4096) {
+            Some(words) => hub_for(addr, stations, words, more),
+            None => Err(3),
+        },
+        _ => Err(3),
+    }
+}
+
+fn hub_for<'a>(
+    addr: &'a str,
+    stations: u16,
+    words: u16,
+    rest: &'a [String],
+) -> Result<Command<'a>, u32>
+    ensures { ReadsAsTarget addr.now stations words (texts rest.now) result }
+{
+    match rest {
+        [target] if is_name(target.as_str()) => Ok(Command::Hub {
+            addr,
+            stations,
+            words,
+            target: target.as_str(),
+        }),
+        [target, _, ..] if is_name(target.as_str()) => Err(5),
         _ => Err(4),
     }
 }

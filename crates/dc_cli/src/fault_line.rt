@@ -8,6 +8,7 @@ use crate::key_fault::put_key_fault;
 use crate::manifest_fault::put_manifest_fault;
 use crate::net_fault::{put_net_fault, put_script_fault, put_stream_fault};
 use crate::outcome::{FileFault, Outcome};
+use crate::peer_fault::put_peer;
 use crate::pieces::{put_named, put_number};
 use crate::refusal_line::{put_command_fault, put_list_fault};
 use dc_edge::{Failed, Sink};
@@ -53,6 +54,8 @@ fn put_outcome_text<E: Sink>(o: &Outcome, err: &mut E) -> Result<(), Failed>
         }
         Outcome::ShelfFault => err.put(b"file fault"),
         Outcome::SinkFault => err.put(b"output fault"),
+        Outcome::WireFault => err.put(b"wire fault"),
+        Outcome::Peer { peer, fault } => put_peer(*peer, *fault, err),
         Outcome::NoMemory => err.put(b"no memory"),
     }
 }

@@ -1,8 +1,9 @@
-//! The top call: the words of a command line, a shelf, two sinks, and an outcome.
+//! The top call: the words of a command line, a shelf, two sinks, a wire, and an outcome.
 #![tactic(auto)]
 
 mod command;
 mod fault_line;
+mod hosting;
 mod key_fault;
 mod keygen;
 mod keygen_seeds;
@@ -10,10 +11,13 @@ mod manifest_fault;
 mod migrate;
 mod net_fault;
 mod outcome;
+mod peer_fault;
 mod pieces;
+mod playing;
 mod reading;
 mod refusal_line;
 mod replaying;
+mod session;
 mod steering;
 mod summing;
 mod top;

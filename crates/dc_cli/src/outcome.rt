@@ -5,6 +5,7 @@ ghost use Rattle.dc_cli.specs.Outcomes.{status_of};
 
 use dc_field::{ListFault, Text};
 use dc_keyfile::KeyFault;
+use dc_live::PeerFault;
 use dc_manifest::ManifestFault;
 use dc_net::NetFault;
 use dc_script::ScriptFault;
@@ -60,6 +61,10 @@ pub enum Outcome {
     ShelfFault,
     /// The sink of output failed. Status 9.
     SinkFault,
+    /// The wire failed. Status 10.
+    WireFault,
+    /// The bytes of a peer do not fit the session. Status 11.
+    Peer { peer: u32, fault: PeerFault },
     /// Memory ran out. Status 12.
     NoMemory,
 }
@@ -78,6 +83,8 @@ pub fn status(o: &Outcome) -> u8
         Outcome::Refused { .. } => 7,
         Outcome::ShelfFault => 8,
         Outcome::SinkFault => 9,
+        Outcome::WireFault => 10,
+        Outcome::Peer { .. } => 11,
         Outcome::NoMemory => 12,
     }
 }

@@ -1,5 +1,5 @@
 use dc_cli::{dcnet, status};
-use dc_edge::{MemoryShelf, MemorySink, OpenGate, Shelf};
+use dc_edge::{MemoryShelf, MemorySink, MemoryWire, OpenGate, Shelf};
 use dc_field::NoMemory;
 use std::process::Abort;
 use std::thread::Threads;
@@ -37,13 +37,16 @@ pub fn check<R: Threads + Sync + AllocGlobal + Abort>(
         shelf.hold(alloc, name, bytes)?;
     }
     shelf.hold(alloc, "o.bin", FORMER)?;
-    let mut out = MemorySink::new(alloc, 10000, given.out_fails)?;
+    let mut out = MemorySink::new(alloc, 40000, given.out_fails)?;
     let mut err = MemorySink::new(alloc, 1000, &[])?;
     let mut line = Vec::new(alloc);
     for word in given.words {
         line.push(String::from_str(alloc, word)?)?;
     }
-    let outcome = dcnet(rt, alloc, &line, &mut shelf, &mut out, &mut err, &OpenGate);
+    let mut wire = MemoryWire::new(alloc, 0, 1, &[], &[])?;
+    let outcome = dcnet(
+        rt, alloc, &line, &mut shelf, &mut out, &mut err, &mut wire, &OpenGate,
+    );
     assert_eq!(rt; status(&outcome), due.status);
     assert_eq!(rt; out.bytes(), due.out);
     assert_eq!(rt; err.bytes(), due.err);

@@ -1,5 +1,5 @@
 use dc_cli::{dcnet, status};
-use dc_edge::{MemoryShelf, MemorySink, OpenGate, Shelf};
+use dc_edge::{MemoryShelf, MemorySink, MemoryWire, OpenGate, Shelf};
 use dc_field::{Bytes, NoMemory};
 use dc_graph::Graph;
 use dc_keyfile::{generate, key_bytes};
@@ -50,7 +50,10 @@ fn check<R: Threads + Sync + AllocGlobal + Abort>(
     for word in words {
         line.push(String::from_str(alloc, word)?)?;
     }
-    let outcome = dcnet(rt, alloc, &line, &mut shelf, &mut out, &mut err, &OpenGate);
+    let mut wire = MemoryWire::new(alloc, 0, 1, &[], &[])?;
+    let outcome = dcnet(
+        rt, alloc, &line, &mut shelf, &mut out, &mut err, &mut wire, &OpenGate,
+    );
     assert_eq!(rt; status(&outcome), due.status);
     assert_eq!(rt; err.bytes(), due.err);
     let written = shelf.read(alloc, "out", 10000);

@@ -6,7 +6,7 @@ ghost use Rattle.std.specs.IoError.{error_kind};
 ghost use Rattle.dcnet.specs.WithoutWords.{outcome_without_words};
 
 use dc_cli::{Outcome, dcnet, put_fault, status};
-use dc_edge::{DirShelf, OpenGate, StdSink};
+use dc_edge::{DirShelf, OpenGate, StdSink, TcpWire};
 use std::io::ErrorKind;
 use std::process::ExitCode;
 use std::{env, io};
@@ -16,9 +16,13 @@ mod in_memory;
 #[cfg(test)]
 mod key_file_tests;
 #[cfg(test)]
+mod logs_tests;
+#[cfg(test)]
 mod refusal_tests;
 #[cfg(test)]
 mod replay_tests;
+#[cfg(test)]
+mod session_tests;
 #[cfg(test)]
 mod steer_tests;
 #[cfg(test)]
@@ -34,6 +38,7 @@ fn main(rt: HostRuntime) -> ExitCode {
         Ok(words) => {
             let mut shelf = DirShelf::new(rt);
             let mut out = StdSink::new(rt.stdout());
+            let mut wire = TcpWire::new(rt, rt.alloc());
             dcnet(
                 &rt,
                 rt.alloc(),
@@ -41,6 +46,7 @@ fn main(rt: HostRuntime) -> ExitCode {
                 &mut shelf,
                 &mut out,
                 &mut err,
+                &mut wire,
                 &OpenGate,
             )
         }

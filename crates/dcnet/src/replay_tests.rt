@@ -1,5 +1,5 @@
 use dc_cli::{dcnet, status};
-use dc_edge::{Gate, MemoryShelf, MemorySink, OpenGate};
+use dc_edge::{Gate, MemoryShelf, MemorySink, MemoryWire, OpenGate};
 use dc_field::NoMemory;
 use std::process::Abort;
 use std::sync::atomic::{AtomicBool, Ordering};
@@ -54,7 +54,10 @@ fn check<R: Threads + Sync + AllocGlobal + Abort>(
     for word in words {
         line.push(String::from_str(alloc, word)?)?;
     }
-    let outcome = dcnet(rt, alloc, &line, &mut shelf, &mut out, &mut err, &OpenGate);
+    let mut wire = MemoryWire::new(alloc, 0, 1, &[], &[])?;
+    let outcome = dcnet(
+        rt, alloc, &line, &mut shelf, &mut out, &mut err, &mut wire, &OpenGate,
+    );
     assert_eq!(rt; status(&outcome), due);
     assert_eq!(rt; out.bytes(), printed);
     assert_eq!(rt; err.bytes(), told);
@@ -153,7 +156,10 @@ fn passes<R: Threads + Sync + AllocGlobal + Abort>(
     for word in words {
         line.push(String::from_str(alloc, word)?)?;
     }
-    let outcome = dcnet(rt, alloc, &line, &mut shelf, &mut out, &mut err, gate);
+    let mut wire = MemoryWire::new(alloc, 0, 1, &[], &[])?;
+    let outcome = dcnet(
+        rt, alloc, &line, &mut shelf, &mut out, &mut err, &mut wire, gate,
+    );
     assert_eq!(rt; status(&outcome), 0);
     Ok(())
 }

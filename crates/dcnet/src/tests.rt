@@ -1,5 +1,5 @@
 use dc_cli::{dcnet, status};
-use dc_edge::{MemoryShelf, MemorySink, OpenGate};
+use dc_edge::{MemoryShelf, MemorySink, MemoryWire, OpenGate};
 use dc_field::NoMemory;
 use std::process::Abort;
 use std::test::Fail;
@@ -49,7 +49,10 @@ fn check<R: Threads + Sync + AllocGlobal + Abort>(
     for word in words {
         line.push(String::from_str(alloc, word)?)?;
     }
-    let outcome = dcnet(rt, alloc, &line, &mut shelf, &mut out, &mut err, &OpenGate);
+    let mut wire = MemoryWire::new(alloc, 0, 1, &[], &[])?;
+    let outcome = dcnet(
+        rt, alloc, &line, &mut shelf, &mut out, &mut err, &mut wire, &OpenGate,
+    );
     assert_eq!(rt; status(&outcome), due.status);
     assert_eq!(rt; out.bytes(), due.out);
     assert_eq!(rt; err.bytes(), due.err);

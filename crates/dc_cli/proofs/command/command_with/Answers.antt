@@ -1,9 +1,9 @@
 use Rattle.dc_cli.specs.Forms.{texts}
-use Rattle.dc_cli.proofs.CommandLemmas.{other_word, ReadsAs-sum, ReadsAs-keygen, ReadsAs-migrate, ReadsAs-replay, ReadsAs-logs, ReadsAs-twin, ReadsAs-steer, ReadsAs-trial}
+use Rattle.dc_cli.proofs.CommandLemmas.{other_word, ReadsAs-sum, ReadsAs-keygen, ReadsAs-migrate, ReadsAs-replay, ReadsAs-logs, ReadsAs-twin, ReadsAs-steer, ReadsAs-station, ReadsAs-hub, ReadsAs-trial}
 use Rattle.dc_cli.proofs.command.command_with.Goals as goal
 
 pub returns-in_default : goal.returns-in_default
-returns-in_default c = other_word c.args.verb.now (texts c.args.rest.now) c.in_default.not-sum c.in_default.not-keygen c.in_default.not-migrate c.in_default.not-replay c.in_default.not-logs c.in_default.not-twin c.in_default.not-steer c.in_default.not-trial
+returns-in_default c = other_word c.args.verb.now (texts c.args.rest.now) c.in_default.not-sum c.in_default.not-keygen c.in_default.not-migrate c.in_default.not-replay c.in_default.not-logs c.in_default.not-twin c.in_default.not-steer c.in_default.not-station c.in_default.not-hub c.in_default.not-trial
 
 pub returns-in-replay : goal.returns-in-replay
 returns-in-replay c = rw c.in-replay.is (ReadsAs-replay (texts c.args.rest.now) c.replay_of.result c.replay_of.ensures)
@@ -28,3 +28,9 @@ returns-in-twin c = rw c.in-twin.is (ReadsAs-twin (texts c.args.rest.now) c.twin
 
 pub returns-in-steer : goal.returns-in-steer
 returns-in-steer c = rw c.in-steer.is (ReadsAs-steer (texts c.args.rest.now) c.steer_of.result c.steer_of.ensures)
+
+pub returns-in-station : goal.returns-in-station
+returns-in-station c = rw c.in-station.is (ReadsAs-station (texts c.args.rest.now) c.player_of.result c.player_of.ensures)
+
+pub returns-in-hub : goal.returns-in-hub
+returns-in-hub c = rw c.in-hub.is (ReadsAs-hub (texts c.args.rest.now) c.hub_of.result c.hub_of.ensures)

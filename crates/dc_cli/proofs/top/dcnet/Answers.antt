@@ -1,4 +1,6 @@
 use Rattle.dc_cli.proofs.PromiseLemmas.{RefusesOtherWords-run, PrintsSums-run, Completes-run, AsksInOrder-run, KeepsFiles-run, PrintsOnlyWhenDone-run, MissesTheAbsent-run, RefusesTheLong-run, RefusesTheMalformed-run, TellsTheFault-run, TellsTheLast-run, HasCauses-run, WritesKeys-run, WritesSeeds-run, WritesPads-run, MakesFiles-run, PrintsView-run, PrintsLogs-run, RunsNets-run, RunsLogs-run, AltersNets-run, PrintsSummary-run, RunsTrials-run}
+use Rattle.dc_live_rules.proofs.RecordedWords.{recorded-live}
+use Rattle.dc_cli.proofs.LiveLemmas.{AsksWire-run, PlaysStations-run, CompletesStations-run, HostsSessions-run, CompletesHubs-run, SessionsAreRuns-run}
 use Rattle.dc_cli.proofs.TheoremLemmas.{IsUntraceable-run, IsSteerable-run, WritesTwin-run, WritesSteering-run, DeliversMessages-run}
 use Rattle.dc_cli.proofs.top.dcnet.Goals as goal
 
@@ -85,3 +87,21 @@ returns-clause-steering g c = WritesSteering-run _ c.run-outcome.ensures
 
 pub returns-clause-delivers : goal.returns-clause-delivers
 returns-clause-delivers g c = DeliversMessages-run _ c.run-outcome.ensures
+
+pub returns-clause-wires : goal.returns-clause-wires
+returns-clause-wires g c = AsksWire-run _ c.run-outcome.ensures
+
+pub returns-clause-plays : goal.returns-clause-plays
+returns-clause-plays g c = PlaysStations-run _ c.run-outcome.ensures
+
+pub returns-clause-stations : goal.returns-clause-stations
+returns-clause-stations g c = CompletesStations-run _ c.run-outcome.ensures
+
+pub returns-clause-hosts : goal.returns-clause-hosts
+returns-clause-hosts g c = HostsSessions-run _ c.run-outcome.ensures
+
+pub returns-clause-hubs : goal.returns-clause-hubs
+returns-clause-hubs g c = CompletesHubs-run _ c.run-outcome.ensures
+
+pub returns-clause-live : goal.returns-clause-live
+returns-clause-live g c = SessionsAreRuns-run _ recorded-live c.run-outcome.ensures
