@@ -1,9 +1,9 @@
 //! Blocks that are alike in all columns, and their products.
 
-ghost use Rattle.std.specs.Prelude.{◌≡◌, ◌++◌, ◌+◌, ◌-◌, ◌*◌, ◌<◌, ◌≤◌, ℕ, IsTrue, length, replicate, slice_index};
+ghost use Rattle.std.specs.Prelude.{◌≡◌, ◌++◌, ◌+◌, ◌-◌, ◌*◌, ◌<◌, ◌≤◌, ℕ, IsTrue, length, replicate, slice_index, take};
 ghost use Rattle.dc_spec.specs.Symbols.{AreSymbols};
 ghost use Rattle.dc_transform_rules.specs.Polynomials.{products};
-ghost use Rattle.dc_transform_rules.specs.Transforms.{size, forward, backward, column};
+ghost use Rattle.dc_transform_rules.specs.Transforms.{size, forward, column};
 ghost use Rattle.dc_fast_keys.specs.Spectrum.{AreAlike};
 
 use dc_transform::{Roots, multiply_rows};
@@ -32,8 +32,8 @@ fn is_constant(row: &[u32]) -> bool
     row.iter().all(|x| *x == first)
 }
 
-/// Writes to `many` the product of polynomials by those whose transforms these are. The block has
-/// their coefficients, with as many zeros after them, and all columns are alike, so one of them is
+/// Writes to `many` the product, place by place, of the transform of a block, with as many zeros
+/// after it, and of these transforms. All columns of the block are alike, so one of them is
 /// transformed for all, in `one`.
 pub(crate) fn multiply_alike(
     roots: &Roots,
@@ -53,30 +53,27 @@ pub(crate) fn multiply_alike(
     requires spectrum_symbols { AreSymbols spectrum.now }
     requires block_symbols { AreSymbols block.now }
     requires alike { AreAlike width (size 1 (depth - 1)) block.now }
-    ensures value { many.new ≡ backward width depth 0
-        (products (forward width depth 0 (block.now ++ replicate (length block.now) 0)) spectrum.now) }
+    ensures value { many.new ≡ products (forward width depth 0 (block.now ++ replicate (length block.now) 0)) spectrum.now }
     ensures symbols { AreSymbols many.new }
 {
     let rows = one.len() / 2;
-    fill_one(width, rows, block, one);
-    roots.forward_in_place(1, depth, one);
+    fill_front(width, rows, block, one);
+    roots.forward_from_front(1, depth, one);
     many.copy_from_slice(spectrum);
     multiply_rows(width, many, one);
-    roots.backward_in_place(width, depth, many);
 }
 
-/// Writes the first column of a block, and as many zeros after it.
-fn fill_one(width: usize, rows: usize, block: &[u32], one: &mut [u32])
+/// Writes the first column of a block to the front of a list.
+fn fill_front(width: usize, rows: usize, block: &[u32], one: &mut [u32])
     requires width { 1 ≤ width }
     requires block_long { length block.now ≡ width * rows }
     requires long { length one.old ≡ rows + rows }
     requires symbols { AreSymbols block.now }
-    ensures value { one.new ≡ column width rows 0 block.now ++ replicate rows 0 }
-    ensures symbols { AreSymbols one.new }
+    ensures value { take rows one.new ≡ column width rows 0 block.now }
+    ensures symbols { AreSymbols (take rows one.new) }
 {
-    let (front, back) = one.split_at_mut(rows);
+    let (front, _) = one.split_at_mut(rows);
     write_first_column(width, block, front);
-    back.fill(0);
 }
 
 /// Writes the first column of a block.

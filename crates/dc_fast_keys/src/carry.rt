@@ -1,13 +1,13 @@
 //! What a block of received symbols contributes to later sums.
 
-ghost use Rattle.std.specs.Prelude.{◌≡◌, ◌++◌, ◌+◌, ◌-◌, ◌*◌, ◌^◌, ◌<◌, ◌≤◌, ℕ, length, replicate, slice_index};
+ghost use Rattle.std.specs.Prelude.{◌≡◌, ◌++◌, ◌+◌, ◌-◌, ◌*◌, ◌^◌, ◌<◌, ◌≤◌, ℕ, length, replicate, slice_index, take};
 ghost use Rattle.dc_spec.specs.Symbols.{AreSymbols};
 ghost use Rattle.dc_transform_rules.specs.Polynomials.{products};
-ghost use Rattle.dc_transform_rules.specs.Transforms.{size, forward, backward};
+ghost use Rattle.dc_transform_rules.specs.Transforms.{size, forward};
 ghost use Rattle.dc_fast_keys.specs.Spectrum.{Added, CarriedFrom};
 
 use crate::alike::{are_alike, multiply_alike};
-use dc_transform::{Roots, add_places, multiply_places};
+use dc_transform::{Roots, multiply_places};
 
 /// Adds to each column of later sums what a block of rows before them contributes, by the
 /// transforms of the pads of all columns. The block is as long as half of these transforms. There is
@@ -36,12 +36,11 @@ pub(crate) fn add_block(
     ensures symbols { AreSymbols sums.new }
 {
     multiply_block(roots, width, depth, spectrum, block, many, one);
-    let half = block.len();
-    add_places(sums, &many[half..half + sums.len()]);
+    roots.backward_to_back(width, depth, many, sums);
 }
 
-/// Writes to `many` the products of the polynomials of a block, with as many zeros after their
-/// coefficients, by those whose transforms these are.
+/// Writes to `many` the products, place by place, of the transforms of a block, with as many zeros
+/// after it, and of these transforms.
 fn multiply_block(
     roots: &Roots,
     width: usize,
@@ -59,42 +58,47 @@ fn multiply_block(
     requires one_long { length one.old ≡ size 1 depth }
     requires spectrum_symbols { AreSymbols spectrum.now }
     requires block_symbols { AreSymbols block.now }
-    ensures value { many.new ≡ backward width depth 0
-        (products (forward width depth 0 (block.now ++ replicate (length block.now) 0)) spectrum.now) }
+    ensures value { many.new ≡ products (forward width depth 0 (block.now ++ replicate (length block.now) 0)) spectrum.now }
     ensures symbols { AreSymbols many.new }
 {
     if 0 < width && are_alike(width, one.len() / 2, block) {
         multiply_alike(roots, width, depth, spectrum, block, many, one);
     } else {
-        fill(many, block);
-        multiply(roots, width, depth, spectrum, many);
+        multiply(roots, width, depth, spectrum, block, many);
     }
 }
 
-/// Writes a block, and as many zeros after it.
-fn fill(work: &mut [u32], block: &[u32])
-    requires long { length work.old ≡ length block.now + length block.now }
-    requires symbols { AreSymbols block.now }
-    ensures value { work.new ≡ block.now ++ replicate (length block.now) 0 }
-    ensures symbols { AreSymbols work.new }
+/// As `multiply_block`, by a transform of each column.
+fn multiply(
+    roots: &Roots,
+    width: usize,
+    depth: usize,
+    spectrum: &[u32],
+    block: &[u32],
+    many: &mut [u32],
+)
+    requires some { 0 < depth }
+    requires block_long { length block.now ≡ size width (depth - 1) }
+    requires spectrum_long { length spectrum.now ≡ size width depth }
+    requires many_long { length many.old ≡ size width depth }
+    requires spectrum_symbols { AreSymbols spectrum.now }
+    requires block_symbols { AreSymbols block.now }
+    ensures value { many.new ≡ products (forward width depth 0 (block.now ++ replicate (length block.now) 0)) spectrum.now }
+    ensures symbols { AreSymbols many.new }
 {
-    let (front, back) = work.split_at_mut(block.len());
-    front.copy_from_slice(block);
-    back.fill(0);
+    fill_front(many, block);
+    roots.forward_from_front(width, depth, many);
+    multiply_places(many, spectrum);
 }
 
-/// Multiplies polynomials that stand side by side by those whose transforms these are.
-fn multiply(roots: &Roots, width: usize, depth: usize, spectrum: &[u32], work: &mut [u32])
-    requires spectrum_long { length spectrum.now ≡ size width depth }
-    requires work_long { length work.old ≡ size width depth }
-    requires spectrum_symbols { AreSymbols spectrum.now }
-    requires work_symbols { AreSymbols work.old }
-    ensures value { work.new ≡ backward width depth 0 (products (forward width depth 0 work.old) spectrum.now) }
-    ensures symbols { AreSymbols work.new }
+/// Writes a block to the front of a list.
+fn fill_front(many: &mut [u32], block: &[u32])
+    requires long { length block.now ≤ length many.old }
+    requires symbols { AreSymbols block.now }
+    ensures value { take (length block.now) many.new ≡ block.now }
 {
-    roots.forward_in_place(width, depth, work);
-    multiply_places(work, spectrum);
-    roots.backward_in_place(width, depth, work);
+    let (front, _) = many.split_at_mut(block.len());
+    front.copy_from_slice(block);
 }
 
 /// How many rows a transform of this depth has, 2^depth.

@@ -76,10 +76,11 @@ impl NetKeys {
     {
         let words = usize::from(words);
         let roots = Roots::start(alloc)?;
-        let spectra = spectra_of(alloc, &roots, levels_of(words), pads)?;
+        let levels = levels_of(words);
+        let spectra = spectra_of(alloc, &roots, levels, pads)?;
         let sums = Table::of_first(alloc, 16 * words, pads)?;
         let received = Table::zeros(alloc, pads.len() * (16 * words))?;
-        let work = Table::zeros(alloc, (pads.len() + 1) * (32 * words))?;
+        let work = Table::zeros(alloc, (pads.len() + 1) * (16 * power_of(levels)))?;
         Ok(NetKeys {
             stations: pads.len(),
             words,

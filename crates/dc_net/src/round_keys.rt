@@ -18,7 +18,7 @@ use std::thread::Threads;
 const STRIP_STATIONS: usize = 16;
 
 /// After how many rounds the keys are worth several threads.
-const THREAD_ROUNDS: usize = 32;
+const THREAD_ROUNDS: usize = 8;
 
 /// What the keys of each honest station add to its next word. The stations are known by their
 /// places, in rising order, and stand in strips of `width` places. All memory is taken at the start.

@@ -1,2 +1,3 @@
 mod HalfLemmas
 mod PowerLemmas
+mod QuarterLemmas

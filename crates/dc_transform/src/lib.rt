@@ -4,6 +4,7 @@
 mod checks;
 mod halves;
 mod places;
+mod quarters;
 mod residue;
 mod roots;
 mod table;

@@ -2,10 +2,10 @@
 
 ghost use Rattle.std.specs.Prelude.{◌≡◌, ◌*◌, ◌^◌, ◌<◌, ◌≤◌, length};
 ghost use Rattle.dc_spec.specs.Symbols.{AreSymbols};
-ghost use Rattle.dc_transform_rules.specs.Residues.{times};
+ghost use Rattle.dc_transform_rules.specs.Residues.{times, minus_one};
 ghost use Rattle.dc_transform_rules.specs.Polynomials.{sums, products, scaled, rows_scaled};
 
-use crate::residue::{sum_of, wide_product_of};
+use crate::residue::{difference_of, product_of, sum_of, wide_product_of};
 
 /// Adds to each number of a list the number of another list at the same place.
 pub fn add_places(a: &mut [u32], b: &[u32])
@@ -73,7 +73,32 @@ fn scale(numbers: &mut [u32], c: u32)
     ensures value { numbers.new ≡ scaled c numbers.old }
     ensures symbols { AreSymbols numbers.new }
 {
+    if c == 65536 {
+        negate(numbers);
+    } else {
+        scale_narrow(numbers, c);
+    }
+}
+
+/// As `scale`, by a constant that is not 65536, so that products fit 32 bits.
+fn scale_narrow(numbers: &mut [u32], c: u32)
+    requires symbols { AreSymbols numbers.old }
+    requires constant { c < 65536 }
+    ensures value { numbers.new ≡ scaled c numbers.old }
+    ensures symbols { AreSymbols numbers.new }
+{
     for i in 0..numbers.len() {
-        numbers[i] = wide_product_of(numbers[i], c);
+        numbers[i] = product_of(numbers[i], c);
+    }
+}
+
+/// As `scale`, by 65536, which is -1.
+fn negate(numbers: &mut [u32])
+    requires symbols { AreSymbols numbers.old }
+    ensures value { numbers.new ≡ scaled minus_one numbers.old }
+    ensures symbols { AreSymbols numbers.new }
+{
+    for i in 0..numbers.len() {
+        numbers[i] = difference_of(0, numbers[i]);
     }
 }

@@ -1,14 +1,14 @@
 //! The transforms, and products of polynomials by them.
 
-ghost use Rattle.std.specs.Prelude.{◌≡◌, ◌≤◌, length, IfOk};
+ghost use Rattle.std.specs.Prelude.{◌≡◌, ◌++◌, ◌-◌, ◌<◌, ◌≤◌, length, take, drop, replicate, IfOk};
 ghost use Rattle.dc_spec.specs.Symbols.{AreSymbols};
-ghost use Rattle.dc_transform_rules.specs.Polynomials.{product};
+ghost use Rattle.dc_transform_rules.specs.Polynomials.{product, sums};
 ghost use Rattle.dc_transform.specs.Roots.{AreRoots};
 ghost use Rattle.dc_transform_rules.specs.Transforms.{size, forward, backward};
 
 use crate::places::{divide, multiply_places};
 use crate::table::powers;
-use crate::transform::{go_backward, go_forward};
+use crate::transform::{go_backward, go_backward_to_back, go_forward, go_forward_from_front};
 use dc_field::NoMemory;
 use std::alloc::Global;
 use std::marker::Model;
@@ -59,6 +59,31 @@ impl Roots {
         ensures symbols { AreSymbols rows.new }
     {
         go_backward(self.powers.as_slice(), width, depth, 0, rows);
+    }
+
+    /// As `forward_in_place`, for rows of which the second half counts as zeros, whatever it holds.
+    pub fn forward_from_front(&self, width: usize, depth: usize, rows: &mut [u32])
+        requires some { 0 < depth }
+        requires long { length rows.old ≡ size width depth }
+        requires symbols { AreSymbols (take (size width (depth - 1)) rows.old) }
+        ensures value { rows.new ≡ forward width depth 0 (take (size width (depth - 1)) rows.old ++ replicate (size width (depth - 1)) 0) }
+        ensures symbols { AreSymbols rows.new }
+    {
+        go_forward_from_front(self.powers.as_slice(), width, depth, rows);
+    }
+
+    /// Goes the way back as `backward_in_place`, and adds the second half of what comes to `totals`, as
+    /// far as there are totals. What the rows hold after it is of no use.
+    pub fn backward_to_back(&self, width: usize, depth: usize, rows: &mut [u32], totals: &mut [u32])
+        requires some { 0 < depth }
+        requires long { length rows.old ≡ size width depth }
+        requires symbols { AreSymbols rows.old }
+        requires totals_long { length totals.old ≤ size width (depth - 1) }
+        requires totals { AreSymbols totals.old }
+        ensures value { totals.new ≡ sums totals.old (take (length totals.old) (drop (size width (depth - 1)) (backward width depth 0 rows.old))) }
+        ensures symbols { AreSymbols totals.new }
+    {
+        go_backward_to_back(self.powers.as_slice(), width, depth, rows, totals);
     }
 
     /// Multiplies a polynomial of 2^depth coefficients by another modulo x^(2^depth) - 1. The

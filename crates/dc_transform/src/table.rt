@@ -1,6 +1,6 @@
 //! The table of the powers of 3 that the transforms take.
 
-ghost use Rattle.std.specs.Prelude.{◌≡◌, ◌-◌, ◌<◌, ◌≤◌, length, IfOk, slice_index};
+ghost use Rattle.std.specs.Prelude.{◌≡◌, ◌+◌, ◌-◌, ◌/◌, ◌<◌, ◌≤◌, length, IfOk, slice_index};
 ghost use Rattle.dc_transform_rules.specs.Residues.{root};
 ghost use Rattle.dc_transform.specs.Roots.{ArePowers, AreRoots};
 
@@ -44,4 +44,42 @@ pub(crate) fn inverse(roots: &[u16], z: usize) -> u32
     } else {
         65537 - u32::from(roots[32768 - z])
     }
+}
+
+/// The constants of the node of an exponent, and of the two nodes below it.
+pub(crate) fn constants(roots: &[u16], exponent: usize) -> (u32, u32, u32)
+    requires roots { AreRoots roots.now }
+    requires exponent { exponent < 65536 }
+    ensures value { result.0 ≡ root (exponent / 2) }
+    ensures left { result.1 ≡ root (exponent / 2 / 2) }
+    ensures right { result.2 ≡ root ((exponent / 2 + 32768) / 2) }
+    ensures small { result.0 < 65536 }
+    ensures left_small { result.1 < 65536 }
+    ensures right_small { result.2 < 65536 }
+{
+    let z = exponent / 2;
+    (
+        constant(roots, z),
+        constant(roots, z / 2),
+        constant(roots, (z + 32768) / 2),
+    )
+}
+
+/// The inverses of the constants of the node of an exponent, and of the two nodes below it.
+pub(crate) fn inverses(roots: &[u16], exponent: usize) -> (u32, u32, u32)
+    requires roots { AreRoots roots.now }
+    requires exponent { exponent < 65536 }
+    ensures value { result.0 ≡ root (65536 - exponent / 2) }
+    ensures left { result.1 ≡ root (65536 - exponent / 2 / 2) }
+    ensures right { result.2 ≡ root (65536 - (exponent / 2 + 32768) / 2) }
+    ensures small { result.0 < 65536 }
+    ensures left_small { result.1 < 65536 }
+    ensures right_small { result.2 < 65536 }
+{
+    let z = exponent / 2;
+    (
+        inverse(roots, z),
+        inverse(roots, z / 2),
+        inverse(roots, (z + 32768) / 2),
+    )
 }

@@ -1,0 +1,18 @@
+use Rattle.std.proofs.Common.{◌≡◌, ℕ, ◌<◌, ◌≤◌, get_or}
+use Rattle.dc_transform.specs.Halves.{plus_half, minus_half}
+use Rattle.dc_transform.proofs.quarters.fold_twice.Given as goal
+
+-- the places so far are folded twice, the others are as they were
+abbrev pub invariant-loop-i : goal.invariant-loop-i
+invariant-loop-i l =
+    let v = l.initial in
+    record {
+      first : (k : ℕ) → k < l.i → get_or l.first k 0 ≡ get_or (plus_half l.d (plus_half l.c v.first v.third) (plus_half l.c v.second v.fourth)) k 0;
+      second : (k : ℕ) → k < l.i → get_or l.second k 0 ≡ get_or (minus_half l.d (plus_half l.c v.first v.third) (plus_half l.c v.second v.fourth)) k 0;
+      third : (k : ℕ) → k < l.i → get_or l.third k 0 ≡ get_or (plus_half l.e (minus_half l.c v.first v.third) (minus_half l.c v.second v.fourth)) k 0;
+      fourth : (k : ℕ) → k < l.i → get_or l.fourth k 0 ≡ get_or (minus_half l.e (minus_half l.c v.first v.third) (minus_half l.c v.second v.fourth)) k 0;
+      rest_first : (k : ℕ) → l.i ≤ k → get_or l.first k 0 ≡ get_or v.first k 0;
+      rest_second : (k : ℕ) → l.i ≤ k → get_or l.second k 0 ≡ get_or v.second k 0;
+      rest_third : (k : ℕ) → l.i ≤ k → get_or l.third k 0 ≡ get_or v.third k 0;
+      rest_fourth : (k : ℕ) → l.i ≤ k → get_or l.fourth k 0 ≡ get_or v.fourth k 0;
+    }
