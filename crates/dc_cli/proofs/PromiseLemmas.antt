@@ -6,11 +6,9 @@ use Rattle.dc_spec.specs.Pads.{Keys as PadKeys}
 use Rattle.dc_spec.specs.Recorded.{Recorded, IsRecorded, transcript_bytes, superposed}
 use Rattle.dc_spec.specs.Text.{words_text}
 use Rattle.dc_formats.specs.KeyFile.{keys_bytes}
-use Rattle.dc_formats.specs.SeedFile.{seeds_bytes}
 use Rattle.dc_formats.proofs.Sizes.{transcript_size}
 use Rattle.dc_edge.specs.Shelf.{IsHeldAbove, FailsUntold, rewritten}
 use Rattle.dc_edge.proofs.PutLemmas.{grown-nothing}
-use Rattle.dc_keyfile.specs.Generator.{generated_keys, seeds_of}
 use Rattle.dc_keyfile.specs.Reading.{keys_from_bytes}
 use Rattle.dc_keyfile.specs.declared.fault.KeyFault.{KeyFault}
 use Rattle.dc_manifest.specs.Content.{Content}
@@ -24,8 +22,9 @@ use Rattle.dc_cli.specs.Forms.{is_form, longest_begun}
 use Rattle.dc_cli.specs.Commands.{Task, sum, keygen, keygen_seeds, migrate, replay, logs, twin, steer, station, hub, trial, Spells}
 use Rattle.dc_cli.specs.Summing.{SummedFile, SumRan, Refused}
 use Rattle.dc_cli.specs.Making.{Making, MakesOf}
-use Rattle.dc_cli.specs.Keygen.{keys_for, keygen_making}
-use Rattle.dc_cli.specs.KeygenSeeds.{seeds_for, seeds_making}
+use Rattle.dc_cli.specs.Keygen.{key_file_for, keys_for, keygen_making}
+use Rattle.dc_cli.specs.declared.keygen.KeyMaterial.{KeyMaterial}
+use Rattle.dc_cli.specs.declared.keygen.KeyMaterial.TheVariants.{Pads, Seeds}
 use Rattle.dc_cli.specs.Migrating.{pads_for, migrate_making}
 use Rattle.dc_cli.specs.Twinning.{twinning}
 use Rattle.dc_cli.specs.Steering.{steering}
@@ -115,8 +114,8 @@ ran_of words command s s' o o' w w' other p ran =
 
 CommandRan-leaves : (command : Task) (s s' : ShelfState) (o o' : SinkState) (w w' : WireState) (outcome : Outcome) → CommandRan command s s' o o' w w' outcome → Leaves command outcome s s'
 CommandRan-leaves (sum file) s s' o o' w w' outcome ran = SumRan-kept file s s' o o' outcome ran
-CommandRan-leaves (keygen seed net target) s s' o o' w w' outcome ran = MakesOf-leaves (keygen_making seed net target) s s' outcome ran.1
-CommandRan-leaves (keygen_seeds seed net target) s s' o o' w w' outcome ran = MakesOf-leaves (seeds_making seed net target) s s' outcome ran.1
+CommandRan-leaves (keygen seed net target) s s' o o' w w' outcome ran = MakesOf-leaves (keygen_making Pads seed net target) s s' outcome ran.1
+CommandRan-leaves (keygen_seeds seed net target) s s' o o' w w' outcome ran = MakesOf-leaves (keygen_making Seeds seed net target) s s' outcome ran.1
 CommandRan-leaves (migrate keys target) s s' o o' w w' outcome ran = MakesOf-leaves (migrate_making keys target) s s' outcome ran.1
 CommandRan-leaves (replay net workers) s s' o o' w w' outcome ran = NetRan-kept view_text net s s' o o' outcome ran
 CommandRan-leaves (logs net) s s' o o' w w' outcome ran = NetRan-kept logs_text net s s' o o' outcome ran
@@ -133,8 +132,8 @@ kept_unread words s s' o o' w w' _ refused ran = absurd (not_both words ran.comm
 CommandRan-asked : (command : Task) (s s' : ShelfState) (o o' : SinkState) (w w' : WireState) (outcome : Outcome) → CommandRan command s s' o o' w w' outcome
     → (files : List (List ℕ)) × AsksFor s command files × AskedUpTo files s s'
 CommandRan-asked (sum file) s s' o o' w w' outcome ran = (file ∷ [], refl, SumRan-asked file s s' o o' outcome ran)
-CommandRan-asked (keygen seed net target) s s' o o' w w' outcome ran = (net ∷ target ∷ [], refl, MakesOf-asked (keygen_making seed net target) s s' outcome ran.1)
-CommandRan-asked (keygen_seeds seed net target) s s' o o' w w' outcome ran = (net ∷ target ∷ [], refl, MakesOf-asked (seeds_making seed net target) s s' outcome ran.1)
+CommandRan-asked (keygen seed net target) s s' o o' w w' outcome ran = (net ∷ target ∷ [], refl, MakesOf-asked (keygen_making Pads seed net target) s s' outcome ran.1)
+CommandRan-asked (keygen_seeds seed net target) s s' o o' w w' outcome ran = (net ∷ target ∷ [], refl, MakesOf-asked (keygen_making Seeds seed net target) s s' outcome ran.1)
 CommandRan-asked (migrate keys target) s s' o o' w w' outcome ran = (keys ∷ target ∷ [], refl, MakesOf-asked (migrate_making keys target) s s' outcome ran.1)
 CommandRan-asked (replay net workers) s s' o o' w w' outcome ran = NetRan-asked view_text net s s' o o' outcome ran
 CommandRan-asked (logs net) s s' o o' w w' outcome ran = NetRan-asked logs_text net s s' o o' outcome ran
@@ -147,8 +146,8 @@ CommandRan-asked (trial seed stations count workers) s s' o o' w w' outcome ran 
 CommandRan-asked_all : (command : Task) (s s' : ShelfState) (o o' : SinkState) (w w' : WireState) → CommandRan command s s' o o' w w' Done
     → (files : List (List ℕ)) × AsksFor s command files × (s'.asked ≡ grown s.asked files)
 CommandRan-asked_all (sum file) s s' o o' w w' ran = (file ∷ [], refl, ran.summed.read.asked)
-CommandRan-asked_all (keygen seed net target) s s' o o' w w' ran = (net ∷ target ∷ [], refl, MakesOf-asked_all (keygen_making seed net target) s s' ran.1)
-CommandRan-asked_all (keygen_seeds seed net target) s s' o o' w w' ran = (net ∷ target ∷ [], refl, MakesOf-asked_all (seeds_making seed net target) s s' ran.1)
+CommandRan-asked_all (keygen seed net target) s s' o o' w w' ran = (net ∷ target ∷ [], refl, MakesOf-asked_all (keygen_making Pads seed net target) s s' ran.1)
+CommandRan-asked_all (keygen_seeds seed net target) s s' o o' w w' ran = (net ∷ target ∷ [], refl, MakesOf-asked_all (keygen_making Seeds seed net target) s s' ran.1)
 CommandRan-asked_all (migrate keys target) s s' o o' w w' ran = (keys ∷ target ∷ [], refl, MakesOf-asked_all (migrate_making keys target) s s' ran.1)
 CommandRan-asked_all (replay net workers) s s' o o' w w' ran = NetRan-asked_all view_text net s s' o o' ran
 CommandRan-asked_all (logs net) s s' o o' w w' ran = NetRan-asked_all logs_text net s s' o o' ran
@@ -203,8 +202,8 @@ done_as file s s' o o' outcome e p = let P : Outcome → Type 0 = λ x. SumRan f
 missing_cause : (command : Task) (s s' : ShelfState) (o o' : SinkState) (w w' : WireState) (name : List ℕ) → CommandRan command s s' o o' w w' (Missing name)
     → (s.holds name ≡ absent) ⊎ FailsUntold (s.holds name) s.faults s'.faults
 missing_cause (sum file) s s' o o' w w' name ran = rw ran.1.0 ran.1.1.answer
-missing_cause (keygen seed net target) s s' o o' w w' name ran = MakesOf-missing (keygen_making seed net target) s s' name ran.1
-missing_cause (keygen_seeds seed net target) s s' o o' w w' name ran = MakesOf-missing (seeds_making seed net target) s s' name ran.1
+missing_cause (keygen seed net target) s s' o o' w w' name ran = MakesOf-missing (keygen_making Pads seed net target) s s' name ran.1
+missing_cause (keygen_seeds seed net target) s s' o o' w w' name ran = MakesOf-missing (keygen_making Seeds seed net target) s s' name ran.1
 missing_cause (migrate keys target) s s' o o' w w' name ran = MakesOf-missing (migrate_making keys target) s s' name ran.1
 missing_cause (replay net workers) s s' o o' w w' name ran = NetRan-missing view_text net name s s' o o' ran
 missing_cause (logs net) s s' o o' w w' name ran = NetRan-missing logs_text net name s s' o o' ran
@@ -224,8 +223,8 @@ missing words s s' o o' w w' outcome name e ran =
 long_cause : (command : Task) (s s' : ShelfState) (o o' : SinkState) (w w' : WireState) (name : List ℕ) → CommandRan command s s' o o' w w' (TooLong name)
     → (limit : ℕ) × HasLimit s command name limit × (IsHeldAbove (s.holds name) limit ⊎ FailsUntold (s.holds name) s.faults s'.faults)
 long_cause (sum file) s s' o o' w w' name ran = (transcript_limit, (ran.1.0, refl), rw ran.1.0 ran.1.1.answer)
-long_cause (keygen seed net target) s s' o o' w w' name ran = (manifest_limit, (ran.1.0, refl), MakesOf-long (keygen_making seed net target) s s' name ran.1)
-long_cause (keygen_seeds seed net target) s s' o o' w w' name ran = (manifest_limit, (ran.1.0, refl), MakesOf-long (seeds_making seed net target) s s' name ran.1)
+long_cause (keygen seed net target) s s' o o' w w' name ran = (manifest_limit, (ran.1.0, refl), MakesOf-long (keygen_making Pads seed net target) s s' name ran.1)
+long_cause (keygen_seeds seed net target) s s' o o' w w' name ran = (manifest_limit, (ran.1.0, refl), MakesOf-long (keygen_making Seeds seed net target) s s' name ran.1)
 long_cause (migrate keys target) s s' o o' w w' name ran = (key_file_limit, (ran.1.0, refl), MakesOf-long (migrate_making keys target) s s' name ran.1)
 long_cause (replay net workers) s s' o o' w w' name ran = NetRan-long view_text net name s s' o o' ran
 long_cause (logs net) s s' o o' w w' name ran = NetRan-long logs_text net name s s' o o' ran
@@ -240,13 +239,9 @@ too_long : (command : Task) (s s' : ShelfState) (o o' : SinkState) (w w' : WireS
 too_long command s s' o o' w w' outcome name e ran = let P : Outcome → Type 0 = λ x. CommandRan command s s' o o' w w' x in long_cause command s s' o o' w w' name (subst P e ran)
 
 -- no fault of a transcript is that of a manifest or of a key file
-no_fault_for_keys : (seed : List ℕ) (r : Result Content ManifestFault) (fault : TranscriptFault) → keys_for seed r ≡ Err (Transcript fault) → ⊥
-no_fault_for_keys seed (Ok content) fault e = cc
-no_fault_for_keys seed (Err seen) fault e = cc
-
-no_fault_for_seeds : (seed : List ℕ) (r : Result Content ManifestFault) (fault : TranscriptFault) → seeds_for seed r ≡ Err (Transcript fault) → ⊥
-no_fault_for_seeds seed (Ok content) fault e = cc
-no_fault_for_seeds seed (Err seen) fault e = cc
+no_fault_for_keys : (material : KeyMaterial) (seed : List ℕ) (r : Result Content ManifestFault) (fault : TranscriptFault) → keys_for material seed r ≡ Err (Transcript fault) → ⊥
+no_fault_for_keys material seed (Ok content) fault e = cc
+no_fault_for_keys material seed (Err seen) fault e = cc
 
 no_fault_for_pads : (r : Result PadKeys KeyFault) (fault : TranscriptFault) → pads_for r ≡ Err (Transcript fault) → ⊥
 no_fault_for_pads (Ok content) fault e = cc
@@ -259,8 +254,8 @@ fault_cause (sum file) s s' o o' w w' name bytes fault told ran =
     let same : ran.1.1.bytes ≡ bytes = told_bytes (s.holds file) bytes ran.1.1.bytes told_file ran.1.1.read.answer.1 in
     let P : List ℕ → Type 0 = λ b. Refused b fault in
     subst P same ran.1.1.holds
-fault_cause (keygen seed net target) s s' o o' w w' name bytes fault told ran = absurd (no_fault_for_keys seed (manifest_of ran.1.1.bytes) fault ran.1.1.holds)
-fault_cause (keygen_seeds seed net target) s s' o o' w w' name bytes fault told ran = absurd (no_fault_for_seeds seed (manifest_of ran.1.1.bytes) fault ran.1.1.holds)
+fault_cause (keygen seed net target) s s' o o' w w' name bytes fault told ran = absurd (no_fault_for_keys Pads seed (manifest_of ran.1.1.bytes) fault ran.1.1.holds)
+fault_cause (keygen_seeds seed net target) s s' o o' w w' name bytes fault told ran = absurd (no_fault_for_keys Seeds seed (manifest_of ran.1.1.bytes) fault ran.1.1.holds)
 fault_cause (migrate keys target) s s' o o' w w' name bytes fault told ran = absurd (no_fault_for_pads (keys_from_bytes ran.1.1.bytes) fault ran.1.1.holds)
 fault_cause (replay net workers) s s' o o' w w' name bytes fault told ran = absurd (NetRan-transcript view_text net name fault s s' o o' ran)
 fault_cause (logs net) s s' o o' w w' name bytes fault told ran = absurd (NetRan-transcript logs_text net name fault s s' o o' ran)
@@ -298,8 +293,8 @@ SumRan-last file s s' o o' outcome name tells p =
 
 CommandRan-last : (command : Task) (s s' : ShelfState) (o o' : SinkState) (w w' : WireState) (outcome : Outcome) (name : List ℕ) → TellsName outcome name → CommandRan command s s' o o' w w' outcome → LastAsked name s s'
 CommandRan-last (sum file) s s' o o' w w' outcome name tells p = SumRan-last file s s' o o' outcome name tells p
-CommandRan-last (keygen seed net target) s s' o o' w w' outcome name tells p = MakesOf-last (keygen_making seed net target) s s' outcome name tells p.1
-CommandRan-last (keygen_seeds seed net target) s s' o o' w w' outcome name tells p = MakesOf-last (seeds_making seed net target) s s' outcome name tells p.1
+CommandRan-last (keygen seed net target) s s' o o' w w' outcome name tells p = MakesOf-last (keygen_making Pads seed net target) s s' outcome name tells p.1
+CommandRan-last (keygen_seeds seed net target) s s' o o' w w' outcome name tells p = MakesOf-last (keygen_making Seeds seed net target) s s' outcome name tells p.1
 CommandRan-last (migrate keys target) s s' o o' w w' outcome name tells p = MakesOf-last (migrate_making keys target) s s' outcome name tells p.1
 CommandRan-last (replay net workers) s s' o o' w w' outcome name tells p = NetRan-last view_text net s s' o o' outcome name tells p
 CommandRan-last (logs net) s s' o o' w w' outcome name tells p = NetRan-last logs_text net s s' o o' outcome name tells p
@@ -315,8 +310,8 @@ last_asked words s s' o o' w w' other name tells ran = CommandRan-last ran.comma
 
 shelf_rose : (command : Task) (s s' : ShelfState) (o o' : SinkState) (w w' : WireState) → CommandRan command s s' o o' w w' ShelfFault → Rose s.faults s'.faults
 shelf_rose (sum file) s s' o o' w w' ran = ran.1.answer
-shelf_rose (keygen seed net target) s s' o o' w w' ran = MakesOf-rose (keygen_making seed net target) s s' ran.1
-shelf_rose (keygen_seeds seed net target) s s' o o' w w' ran = MakesOf-rose (seeds_making seed net target) s s' ran.1
+shelf_rose (keygen seed net target) s s' o o' w w' ran = MakesOf-rose (keygen_making Pads seed net target) s s' ran.1
+shelf_rose (keygen_seeds seed net target) s s' o o' w w' ran = MakesOf-rose (keygen_making Seeds seed net target) s s' ran.1
 shelf_rose (migrate keys target) s s' o o' w w' ran = MakesOf-rose (migrate_making keys target) s s' ran.1
 shelf_rose (replay net workers) s s' o o' w w' ran = NetRan-shelf_rose view_text net s s' o o' ran
 shelf_rose (logs net) s s' o o' w w' ran = NetRan-shelf_rose logs_text net s s' o o' ran
@@ -518,8 +513,8 @@ MakesFiles-ran c (steer net u v wanted target) m e ran = absurd cc
 MakesFiles-ran c (station addr id keys stream) m e ran = absurd cc
 MakesFiles-ran c (hub addr stations count target) m e ran = absurd cc
 MakesFiles-ran c (trial seed stations count workers) m e ran = absurd cc
-MakesFiles-ran c (keygen seed net target) m e ran = let same : keygen_making seed net target ≡ m = cc in rw (← same) (MakesFile-run c (keygen_making seed net target) ran.0 ran.1)
-MakesFiles-ran c (keygen_seeds seed net target) m e ran = let same : seeds_making seed net target ≡ m = cc in rw (← same) (MakesFile-run c (seeds_making seed net target) ran.0 ran.1)
+MakesFiles-ran c (keygen seed net target) m e ran = let same : keygen_making Pads seed net target ≡ m = cc in rw (← same) (MakesFile-run c (keygen_making Pads seed net target) ran.0 ran.1)
+MakesFiles-ran c (keygen_seeds seed net target) m e ran = let same : keygen_making Seeds seed net target ≡ m = cc in rw (← same) (MakesFile-run c (keygen_making Seeds seed net target) ran.0 ran.1)
 MakesFiles-ran c (migrate keys target) m e ran = let same : migrate_making keys target ≡ m = cc in rw (← same) (MakesFile-run c (migrate_making keys target) ran.0 ran.1)
 
 pub MakesFiles-run : (c : Call) → HasRun c → MakesFiles c
@@ -555,15 +550,10 @@ same_bytes : (xs ys : List ℕ) (r : Result (List ℕ) FileFault) → r ≡ Ok y
 same_bytes xs ys r a b = cc
 
 -- what a manifest or a key file is that makes a file, and what it makes
-keys_of : (seed : List ℕ) (r : Result Content ManifestFault) (bytes : List ℕ) → keys_for seed r ≡ Ok bytes
-    → (content : Content) × (r ≡ Ok content) × (bytes ≡ keys_bytes (generated_keys seed content.graph content.words))
-keys_of seed (Ok content) bytes e = (content, refl, same_bytes (keys_bytes (generated_keys seed content.graph content.words)) bytes (Ok bytes) refl e)
-keys_of seed (Err fault) bytes e = absurd cc
-
-seeds_with : (seed : List ℕ) (r : Result Content ManifestFault) (bytes : List ℕ) → seeds_for seed r ≡ Ok bytes
-    → (content : Content) × (r ≡ Ok content) × (bytes ≡ seeds_bytes (seeds_of seed content.graph content.words))
-seeds_with seed (Ok content) bytes e = (content, refl, same_bytes (seeds_bytes (seeds_of seed content.graph content.words)) bytes (Ok bytes) refl e)
-seeds_with seed (Err fault) bytes e = absurd cc
+keys_of : (material : KeyMaterial) (seed : List ℕ) (r : Result Content ManifestFault) (bytes : List ℕ) → keys_for material seed r ≡ Ok bytes
+    → (content : Content) × (r ≡ Ok content) × (bytes ≡ key_file_for material seed content)
+keys_of material seed (Ok content) bytes e = (content, refl, same_bytes (key_file_for material seed content) bytes (Ok bytes) refl e)
+keys_of material seed (Err fault) bytes e = absurd cc
 
 pads_of : (r : Result PadKeys KeyFault) (bytes : List ℕ) → pads_for r ≡ Ok bytes → (keys : PadKeys) × (r ≡ Ok keys) × (bytes ≡ keys_bytes keys)
 pads_of (Ok keys) bytes e = (keys, refl, same_bytes (keys_bytes keys) bytes (Ok bytes) refl e)
@@ -571,14 +561,14 @@ pads_of (Err fault) bytes e = absurd cc
 
 pub WritesKeys-run : (c : Call) → HasRun c → WritesKeys c
 WritesKeys-run c ran = λ e seed net target read p told.
-    let w = (MakesFiles-run c ran (keygen seed net target) (keygen_making seed net target) p refl).written e read told in
-    let k = keys_of seed (manifest_of read) w.0 w.1 in
+    let w = (MakesFiles-run c ran (keygen seed net target) (keygen_making Pads seed net target) p refl).written e read told in
+    let k = keys_of Pads seed (manifest_of read) w.0 w.1 in
     (k.0, k.1, w.2 ∙ ap (λ (bytes : List ℕ). rewritten (c.shelf.holds target) bytes) k.2)
 
 pub WritesSeeds-run : (c : Call) → HasRun c → WritesSeeds c
 WritesSeeds-run c ran = λ e seed net target read p told.
-    let w = (MakesFiles-run c ran (keygen_seeds seed net target) (seeds_making seed net target) p refl).written e read told in
-    let k = seeds_with seed (manifest_of read) w.0 w.1 in
+    let w = (MakesFiles-run c ran (keygen_seeds seed net target) (keygen_making Seeds seed net target) p refl).written e read told in
+    let k = keys_of Seeds seed (manifest_of read) w.0 w.1 in
     (k.0, k.1, w.2 ∙ ap (λ (bytes : List ℕ). rewritten (c.shelf.holds target) bytes) k.2)
 
 pub WritesPads-run : (c : Call) → HasRun c → WritesPads c

@@ -12,7 +12,6 @@ pub mod Reading
 pub mod Summing
 pub mod Making
 pub mod Keygen
-pub mod KeygenSeeds
 pub mod Migrating
 pub mod Replaying
 pub mod Altering

@@ -31,7 +31,7 @@ use Rattle.dc_cli.specs.Commands.{Task, sum, keygen, keygen_seeds, migrate, repl
 use Rattle.dc_cli.specs.Summing.{Refused}
 use Rattle.dc_cli.specs.Making.{Making}
 use Rattle.dc_cli.specs.Keygen.{keygen_making}
-use Rattle.dc_cli.specs.KeygenSeeds.{seeds_making}
+use Rattle.dc_cli.specs.declared.keygen.KeyMaterial.TheVariants.{Pads, Seeds}
 use Rattle.dc_cli.specs.Migrating.{migrate_making}
 use Rattle.dc_cli.specs.declared.outcome.Outcome.{Outcome}
 use Rattle.dc_cli.specs.declared.outcome.Outcome.TheVariants.{Done, Usage, Missing, TooLong, Malformed, ShelfFault, SinkFault, WireFault, NoMemory}
@@ -250,8 +250,8 @@ pub record MakesFile (c : Call) (m : Making) : Type 0 where
 -- the commands that make one file of another
 abbrev pub making_of : Task → Option Making
 making_of (sum file) = None
-making_of (keygen seed net target) = Some (keygen_making seed net target)
-making_of (keygen_seeds seed net target) = Some (seeds_making seed net target)
+making_of (keygen seed net target) = Some (keygen_making Pads seed net target)
+making_of (keygen_seeds seed net target) = Some (keygen_making Seeds seed net target)
 making_of (migrate keys target) = Some (migrate_making keys target)
 making_of (replay net workers) = None
 making_of (logs net) = None

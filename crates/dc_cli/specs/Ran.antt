@@ -9,7 +9,7 @@ use Rattle.dc_cli.specs.Commands.{Task, sum, keygen, keygen_seeds, migrate, repl
 use Rattle.dc_cli.specs.Summing.{SumRan}
 use Rattle.dc_cli.specs.Making.{MakesOf}
 use Rattle.dc_cli.specs.Keygen.{keygen_making}
-use Rattle.dc_cli.specs.KeygenSeeds.{seeds_making}
+use Rattle.dc_cli.specs.declared.keygen.KeyMaterial.TheVariants.{Pads, Seeds}
 use Rattle.dc_cli.specs.Migrating.{migrate_making}
 use Rattle.dc_run_texts.specs.View.{view_text}
 use Rattle.dc_run_texts.specs.Logs.{logs_text}
@@ -34,8 +34,8 @@ pub record RefusedWords (words : List (List ℕ)) (place : ℕ) (shelf shelf' : 
 -- what a command did, by its outcome
 abbrev pub CommandRan : Task → ShelfState → ShelfState → SinkState → SinkState → WireState → WireState → Outcome → Type 0
 CommandRan (sum file) shelf shelf' out out' wire wire' outcome = SumRan file shelf shelf' out out' outcome
-CommandRan (keygen seed net target) shelf shelf' out out' wire wire' outcome = (out' ≡ out) × MakesOf (keygen_making seed net target) shelf shelf' outcome
-CommandRan (keygen_seeds seed net target) shelf shelf' out out' wire wire' outcome = (out' ≡ out) × MakesOf (seeds_making seed net target) shelf shelf' outcome
+CommandRan (keygen seed net target) shelf shelf' out out' wire wire' outcome = (out' ≡ out) × MakesOf (keygen_making Pads seed net target) shelf shelf' outcome
+CommandRan (keygen_seeds seed net target) shelf shelf' out out' wire wire' outcome = (out' ≡ out) × MakesOf (keygen_making Seeds seed net target) shelf shelf' outcome
 CommandRan (migrate keys target) shelf shelf' out out' wire wire' outcome = (out' ≡ out) × MakesOf (migrate_making keys target) shelf shelf' outcome
 CommandRan (replay net workers) shelf shelf' out out' wire wire' outcome = NetRan view_text net shelf shelf' out out' outcome
 CommandRan (logs net) shelf shelf' out out' wire wire' outcome = NetRan logs_text net shelf shelf' out out' outcome

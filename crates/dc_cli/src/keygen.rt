@@ -2,32 +2,40 @@
 
 ghost use Rattle.std.specs.Prelude.{◌≡◌, IfOk};
 ghost use Rattle.dc_spec.specs.Limits.{manifest_limit};
-ghost use Rattle.dc_formats.specs.KeyFile.{keys_bytes};
-ghost use Rattle.dc_keyfile.specs.Generator.{generated_keys};
 ghost use Rattle.dc_cli.specs.Making.{MadeOfBytes, MadeOfFile, MakesOf};
-ghost use Rattle.dc_cli.specs.Keygen.{generated_file, keygen_making};
+ghost use Rattle.dc_cli.specs.Keygen.{generated_file, keygen_making, key_file_for};
 
 use crate::outcome::{FileFault, Outcome};
 use crate::reading::{malformed, read_file};
 use crate::writing::write_file;
 use dc_edge::Shelf;
 use dc_field::{Bytes, MANIFEST_LIMIT, NoMemory, Refusal};
-use dc_keyfile::{generate, key_bytes};
+use dc_keyfile::{generate, generate_seeds, key_bytes, seed_bytes};
 use dc_manifest::{Manifest, read_manifest};
 use std::alloc::Global;
 
-/// Writes the key file that a seed generates for the net of a manifest. All else is done before it is written.
+/// What a key file holds of each edge.
+#[derive(Clone, Copy)]
+pub enum KeyMaterial {
+    /// All pads.
+    Pads,
+    /// The seed that generates them.
+    Seeds,
+}
+
+/// Writes the key file that a seed makes for the net of a manifest. All else is done before it is written.
 pub fn run_keygen<F: Shelf>(
     alloc: Global,
+    material: KeyMaterial,
     seed: &[u8; 32],
     net: &str,
     target: &str,
     shelf: &mut F,
 ) -> Outcome
-    ensures { MakesOf (keygen_making seed.now net.now target.now)
+    ensures { MakesOf (keygen_making material seed.now net.now target.now)
         (F.state shelf.old) (F.state shelf.new) result }
 {
-    match keys_of_file(alloc, seed, net, shelf) {
+    match keys_of_file(alloc, material, seed, net, shelf) {
         Ok(bytes) => write_file(alloc, shelf, target, bytes.as_slice()),
         Err(outcome) => outcome,
     }
@@ -36,23 +44,30 @@ pub fn run_keygen<F: Shelf>(
 /// The bytes of the key file for the manifest in a file.
 fn keys_of_file<F: Shelf>(
     alloc: Global,
+    material: KeyMaterial,
     seed: &[u8; 32],
     net: &str,
     shelf: &mut F,
 ) -> Result<Bytes, Outcome>
-    ensures { MadeOfFile (generated_file seed.now) net.now manifest_limit
+    ensures { MadeOfFile (generated_file material seed.now) net.now manifest_limit
         (F.state shelf.old) (F.state shelf.new) result }
 {
     let bytes = read_file(alloc, shelf, net, MANIFEST_LIMIT)?;
-    keys_of_bytes(alloc, seed, net, bytes.as_slice())
+    keys_of_bytes(alloc, material, seed, net, bytes.as_slice())
 }
 
 /// The bytes of the key file for the manifest that these bytes of a file hold.
-fn keys_of_bytes(alloc: Global, seed: &[u8; 32], net: &str, bytes: &[u8]) -> Result<Bytes, Outcome>
-    ensures { MadeOfBytes (generated_file seed.now) net.now bytes.now result }
+fn keys_of_bytes(
+    alloc: Global,
+    material: KeyMaterial,
+    seed: &[u8; 32],
+    net: &str,
+    bytes: &[u8],
+) -> Result<Bytes, Outcome>
+    ensures { MadeOfBytes (generated_file material seed.now) net.now bytes.now result }
 {
     match read_manifest(alloc, bytes) {
-        Ok(manifest) => match generated_bytes(alloc, seed, &manifest) {
+        Ok(manifest) => match keys_of_manifest(alloc, material, seed, &manifest) {
             Ok(bytes) => Ok(bytes),
             Err(NoMemory) => Err(Outcome::NoMemory),
         },
@@ -62,10 +77,22 @@ fn keys_of_bytes(alloc: Global, seed: &[u8; 32], net: &str, bytes: &[u8]) -> Res
 }
 
 /// The bytes of the key file for a manifest.
-fn generated_bytes(alloc: Global, seed: &[u8; 32], manifest: &Manifest) -> Result<Bytes, NoMemory>
-    ensures { IfOk result (λ bytes. bytes ≡
-        keys_bytes (generated_keys seed.now manifest.now.graph manifest.now.words)) }
+fn keys_of_manifest(
+    alloc: Global,
+    material: KeyMaterial,
+    seed: &[u8; 32],
+    manifest: &Manifest,
+) -> Result<Bytes, NoMemory>
+    ensures { IfOk result (λ bytes. bytes ≡ key_file_for material seed.now manifest.now) }
 {
-    let keys = generate(alloc, seed, &manifest.graph, manifest.words)?;
-    key_bytes(alloc, &keys)
+    match material {
+        KeyMaterial::Pads => {
+            let keys = generate(alloc, seed, &manifest.graph, manifest.words)?;
+            key_bytes(alloc, &keys)
+        }
+        KeyMaterial::Seeds => {
+            let seeds = generate_seeds(alloc, seed, &manifest.graph, manifest.words)?;
+            seed_bytes(alloc, &seeds)
+        }
+    }
 }

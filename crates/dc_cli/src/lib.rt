@@ -6,7 +6,6 @@ mod fault_line;
 mod hosting;
 mod key_fault;
 mod keygen;
-mod keygen_seeds;
 mod manifest_fault;
 mod migrate;
 mod net_fault;

@@ -12,8 +12,7 @@ ghost use Rattle.dc_cli.specs.Ran.{Ran, CommandRan, LeavesWire, PutsLine};
 use crate::command::{Command, command_of};
 use crate::fault_line::put_fault;
 use crate::hosting::run_hub;
-use crate::keygen::run_keygen;
-use crate::keygen_seeds::run_keygen_seeds;
+use crate::keygen::{KeyMaterial, run_keygen};
 use crate::migrate::run_migrate;
 use crate::outcome::Outcome;
 use crate::playing::run_station;
@@ -153,9 +152,11 @@ fn run_command<R: Threads + Sync, F: Shelf, K: Sink, W: Wire, G: Gate + Sync>(
 {
     match command {
         Command::Sum { file } => run_sum(alloc, file, shelf, out),
-        Command::Keygen { seed, net, target } => run_keygen(alloc, &seed, net, target, shelf),
+        Command::Keygen { seed, net, target } => {
+            run_keygen(alloc, KeyMaterial::Pads, &seed, net, target, shelf)
+        }
         Command::KeygenSeeds { seed, net, target } => {
-            run_keygen_seeds(alloc, &seed, net, target, shelf)
+            run_keygen(alloc, KeyMaterial::Seeds, &seed, net, target, shelf)
         }
         Command::Migrate { keys, target } => run_migrate(rt, alloc, keys, target, shelf),
         Command::Replay { net, workers } => {
