@@ -10,6 +10,12 @@ mod hubs;
 #[cfg(test)]
 mod one_word;
 #[cfg(test)]
+mod serve_tests;
+#[cfg(test)]
+mod serving;
+#[cfg(test)]
+mod starved;
+#[cfg(test)]
 mod station_tests;
 #[cfg(test)]
 mod stations;
