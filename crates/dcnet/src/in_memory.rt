@@ -104,6 +104,58 @@ pub fn refuses<R: Threads + Sync + AllocGlobal + Abort>(
     check(rt, given, due)
 }
 
+/// The first calls, each alone.
+const EACH_CALL: [&[u32]; 7] = [&[0], &[1], &[2], &[3], &[4], &[5], &[6]];
+
+/// Asserts that a command, each of whose first calls of the shelf fails in turn, up to seven, ends with the
+/// fault of a file, prints nothing and leaves `o.bin`.
+pub fn files_fail<'a, R: Threads + Sync + AllocGlobal + Abort>(
+    rt: &R,
+    words: &'a [&'a str],
+    files: &'a [(&'a str, &'a [u8])],
+    calls: usize,
+) -> Result<(), NoMemory> {
+    for call in 0..calls.min(EACH_CALL.len()) {
+        let given = Given {
+            words,
+            files,
+            shelf_fails: EACH_CALL[call],
+            out_fails: &[],
+        };
+        let due = Due {
+            status: 8,
+            out: b"",
+            err: b"dcnet: file fault\n",
+            written: FORMER,
+        };
+        check(rt, given, due)?;
+    }
+    Ok(())
+}
+
+/// Asserts that a command whose first put to the output fails ends with the fault of the output, and
+/// what `o.bin` holds then.
+pub fn output_fails<R: Threads + Sync + AllocGlobal + Abort>(
+    rt: &R,
+    words: &[&str],
+    files: &[(&str, &[u8])],
+    written: &[u8],
+) -> Result<(), NoMemory> {
+    let given = Given {
+        words,
+        files,
+        shelf_fails: &[],
+        out_fails: &[0],
+    };
+    let due = Due {
+        status: 9,
+        out: b"",
+        err: b"dcnet: output fault\n",
+        written,
+    };
+    check(rt, given, due)
+}
+
 /// A pad that is not 0: the place of its pair, its number (the second pads come after the first ones), and its value.
 type Pad = (usize, usize, u32);
 

@@ -12,6 +12,8 @@ use std::process::ExitCode;
 use std::{env, io};
 
 #[cfg(test)]
+mod failing_tests;
+#[cfg(test)]
 mod in_memory;
 #[cfg(test)]
 mod key_file_tests;

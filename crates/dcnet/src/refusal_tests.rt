@@ -1,4 +1,4 @@
-use crate::in_memory::{Due, FORMER, Given, check, key_file, refuses};
+use crate::in_memory::{files_fail, key_file, refuses};
 use dc_field::{Bytes, NoMemory};
 use dc_graph::Graph;
 use dc_keyfile::{generate, key_bytes};
@@ -207,20 +207,6 @@ fn logs_whose_files_fail(rt: HostRuntime) -> Result<(), Fail> {
         ("b.txt", THREE),
         ("c.txt", THREE),
     ];
-    for call in 0..5 {
-        let given = Given {
-            words: LOGS,
-            files: &files,
-            shelf_fails: &[call],
-            out_fails: &[],
-        };
-        let due = Due {
-            status: 8,
-            out: b"",
-            err: b"dcnet: file fault\n",
-            written: FORMER,
-        };
-        check(&rt, given, due)?;
-    }
+    files_fail(&rt, LOGS, &files, 5)?;
     Ok(())
 }

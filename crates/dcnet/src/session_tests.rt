@@ -15,8 +15,50 @@ struct Ended {
     err: MemorySink,
 }
 
+/// The numbers of the calls that fail: of the wire, of the shelf, and of the output.
+#[derive(Clone, Copy)]
+struct Fails<'a> {
+    wire: &'a [u32],
+    shelf: &'a [u32],
+    out: &'a [u32],
+}
+
+/// No call fails.
+const NONE: Fails<'_> = Fails {
+    wire: &[],
+    shelf: &[],
+    out: &[],
+};
+
+/// These calls of the wire fail, and no others.
+fn wire_fails(wire: &[u32]) -> Fails<'_> {
+    Fails {
+        wire,
+        shelf: &[],
+        out: &[],
+    }
+}
+
+/// These calls of the shelf fail, and no others.
+fn file_fails(shelf: &[u32]) -> Fails<'_> {
+    Fails {
+        wire: &[],
+        shelf,
+        out: &[],
+    }
+}
+
+/// These puts to the output fail, and no others.
+fn output_fails(out: &[u32]) -> Fails<'_> {
+    Fails {
+        wire: &[],
+        shelf: &[],
+        out,
+    }
+}
+
 /// A call over objects in memory: the files `k.bin`, `s.txt` and `o.bin`, two peers that give these bytes, the peers in the order in
-/// which a hub hears them, and the numbers of the wire's calls that fail.
+/// which a hub hears them, and the calls that fail.
 fn call<R: Threads + Sync + AllocGlobal + Abort>(
     rt: &R,
     words: &[&str],
@@ -25,16 +67,16 @@ fn call<R: Threads + Sync + AllocGlobal + Abort>(
     first: &[u8],
     second: &[u8],
     order: &[u32],
-    fails: &[u32],
+    fails: Fails<'_>,
 ) -> Result<Ended, NoMemory> {
     let alloc = rt.alloc();
-    let mut shelf = MemoryShelf::new(alloc, &[])?;
+    let mut shelf = MemoryShelf::new(alloc, fails.shelf)?;
     shelf.hold(alloc, "k.bin", keys)?;
     shelf.hold(alloc, "s.txt", stream)?;
     shelf.hold(alloc, "o.bin", FORMER)?;
-    let mut out = MemorySink::new(alloc, 1000, &[])?;
+    let mut out = MemorySink::new(alloc, 1000, fails.out)?;
     let mut err = MemorySink::new(alloc, 1000, &[])?;
-    let mut wire = MemoryWire::new(alloc, 1000, 69, order, fails)?;
+    let mut wire = MemoryWire::new(alloc, 1000, 69, order, fails.wire)?;
     wire.feed_peer(alloc, first)?;
     wire.feed_peer(alloc, second)?;
     let mut line = Vec::new(alloc);
@@ -94,11 +136,11 @@ const KEPT: &[u8; 72] =
 const SUM: &[u8] =
     b"00001000000000000000000000000000000000000000000000000000000000000000000000000002\n";
 
-/// A hub of one station and one word over one peer, whose wire fails at these calls.
+/// A hub of one station and one word over one peer, where these calls fail.
 fn hub_of_one<R: Threads + Sync + AllocGlobal + Abort>(
     rt: &R,
     bytes: &[u8],
-    fails: &[u32],
+    fails: Fails<'_>,
 ) -> Result<Ended, NoMemory> {
     call(
         rt,
@@ -120,7 +162,7 @@ fn hub_refuses<R: Threads + Sync + AllocGlobal + Abort>(
 ) -> Result<(), NoMemory> {
     let mut bytes = peer(rt, 0, 1, 1)?;
     bytes.extend_from_slice(rest)?;
-    let ended = hub_of_one(rt, &bytes, &[])?;
+    let ended = hub_of_one(rt, &bytes, NONE)?;
     ends(rt, ended, 11, b"", err, FORMER);
     Ok(())
 }
@@ -129,7 +171,7 @@ fn hub_refuses<R: Threads + Sync + AllocGlobal + Abort>(
 fn hub_of_one_station(rt: HostRuntime) -> Result<(), Fail> {
     let mut bytes = peer(&rt, 0, 1, 1)?;
     push_word(&mut bytes, 2, 0, 1, 2)?;
-    let ended = hub_of_one(&rt, &bytes, &[])?;
+    let ended = hub_of_one(&rt, &bytes, NONE)?;
     ends(&rt, ended, 0, SUM, b"", KEPT);
     Ok(())
 }
@@ -143,11 +185,22 @@ fn hub_wire_fails(rt: HostRuntime) -> Result<(), Fail> {
     let mut bytes = peer(&rt, 0, 1, 1)?;
     push_word(&mut bytes, 2, 0, 1, 2)?;
     for number in 0..HUB_CALLS {
-        let ended = hub_of_one(&rt, &bytes, &[number])?;
+        let ended = hub_of_one(&rt, &bytes, wire_fails(&[number]))?;
         ends(&rt, ended, 10, b"", b"dcnet: wire fault\n", FORMER);
     }
-    let ended = hub_of_one(&rt, &bytes, &[HUB_CALLS])?;
+    let ended = hub_of_one(&rt, &bytes, wire_fails(&[HUB_CALLS]))?;
     ends(&rt, ended, 0, SUM, b"", KEPT);
+    Ok(())
+}
+
+#[test]
+fn hub_file_or_output_fails(rt: HostRuntime) -> Result<(), Fail> {
+    let mut bytes = peer(&rt, 0, 1, 1)?;
+    push_word(&mut bytes, 2, 0, 1, 2)?;
+    let ended = hub_of_one(&rt, &bytes, file_fails(&[0]))?;
+    ends(&rt, ended, 8, b"", b"dcnet: file fault\n", FORMER);
+    let ended = hub_of_one(&rt, &bytes, output_fails(&[0]))?;
+    ends(&rt, ended, 9, b"", b"dcnet: output fault\n", KEPT);
     Ok(())
 }
 
@@ -155,7 +208,7 @@ fn hub_wire_fails(rt: HostRuntime) -> Result<(), Fail> {
 fn hub_refuses_other_frames(rt: HostRuntime) -> Result<(), Fail> {
     let mut early = Vec::new(rt.alloc());
     push_word(&mut early, 2, 0, 0, 0)?;
-    let ended = hub_of_one(&rt, &early, &[])?;
+    let ended = hub_of_one(&rt, &early, NONE)?;
     ends(
         &rt,
         ended,
@@ -192,7 +245,7 @@ fn hub_refuses_bytes(rt: HostRuntime) -> Result<(), Fail> {
 #[test]
 fn hub_refuses_hellos(rt: HostRuntime) -> Result<(), Fail> {
     let other = peer(&rt, 1, 1, 1)?;
-    let ended = hub_of_one(&rt, &other, &[])?;
+    let ended = hub_of_one(&rt, &other, NONE)?;
     ends(
         &rt,
         ended,
@@ -203,7 +256,7 @@ fn hub_refuses_hellos(rt: HostRuntime) -> Result<(), Fail> {
     );
     let taken = peer(&rt, 0, 2, 1)?;
     let words = ["hub", "x", "2", "1", "o.bin"];
-    let ended = call(&rt, &words, b"", b"", &taken, &taken, &[], &[])?;
+    let ended = call(&rt, &words, b"", b"", &taken, &taken, &[], NONE)?;
     ends(
         &rt,
         ended,
@@ -223,7 +276,7 @@ fn hub_hears_a_peer_again(rt: HostRuntime) -> Result<(), Fail> {
     let mut once = peer(&rt, 1, 2, 2)?;
     push_word(&mut once, 2, 0, 0, 0)?;
     let words = ["hub", "x", "2", "2", "o.bin"];
-    let ended = call(&rt, &words, b"", b"", &twice, &once, &[0, 0, 0, 0, 0], &[])?;
+    let ended = call(&rt, &words, b"", b"", &twice, &once, &[0, 0, 0, 0, 0], NONE)?;
     ends(
         &rt,
         ended,
@@ -242,7 +295,7 @@ fn hub_hears_by_choice(rt: HostRuntime) -> Result<(), Fail> {
     let mut second = peer(&rt, 1, 2, 1)?;
     push_word(&mut second, 2, 1, 0, 0)?;
     let words = ["hub", "x", "2", "1", "o.bin"];
-    let ended = call(&rt, &words, b"", b"", &first, &second, &[1, 1], &[])?;
+    let ended = call(&rt, &words, b"", b"", &first, &second, &[1, 1], NONE)?;
     ends(
         &rt,
         ended,
@@ -258,7 +311,7 @@ fn hub_hears_by_choice(rt: HostRuntime) -> Result<(), Fail> {
 fn station<R: Threads + Sync + AllocGlobal + Abort>(
     rt: &R,
     hub: &[u8],
-    fails: &[u32],
+    fails: Fails<'_>,
 ) -> Result<Ended, NoMemory> {
     let keys = key_file(rt, 2, 2, &[(0, 1)], &[])?;
     call(
@@ -278,10 +331,10 @@ fn station_refuses_the_hub(rt: HostRuntime) -> Result<(), Fail> {
     let mut short = Vec::new(rt.alloc());
     push_word(&mut short, 3, 0, 0, 0)?;
     short.extend_from_slice(&[3, 0, 66, 0, 1, 0, 0, 0, 0, 0])?;
-    let ended = station(&rt, &short, &[])?;
+    let ended = station(&rt, &short, NONE)?;
     ends(&rt, ended, 11, b"", b"dcnet: peer 0: ended at=79\n", FORMER);
     let hello = peer(&rt, 0, 2, 2)?;
-    let ended = station(&rt, &hello, &[])?;
+    let ended = station(&rt, &hello, NONE)?;
     ends(
         &rt,
         ended,
@@ -292,7 +345,7 @@ fn station_refuses_the_hub(rt: HostRuntime) -> Result<(), Fail> {
     );
     let mut later = Vec::new(rt.alloc());
     push_word(&mut later, 3, 1, 0, 0)?;
-    let ended = station(&rt, &later, &[])?;
+    let ended = station(&rt, &later, NONE)?;
     ends(
         &rt,
         ended,
@@ -314,11 +367,25 @@ fn station_wire_fails(rt: HostRuntime) -> Result<(), Fail> {
     push_word(&mut hub, 3, 0, 0, 0)?;
     push_word(&mut hub, 3, 1, 0, 0)?;
     for number in 0..STATION_CALLS {
-        let ended = station(&rt, &hub, &[number])?;
+        let ended = station(&rt, &hub, wire_fails(&[number]))?;
         ends(&rt, ended, 10, b"", b"dcnet: wire fault\n", FORMER);
     }
-    let ended = station(&rt, &hub, &[STATION_CALLS])?;
+    let ended = station(&rt, &hub, wire_fails(&[STATION_CALLS]))?;
     ends(&rt, ended, 0, b"station 0\npending 0 0\n", b"", FORMER);
+    Ok(())
+}
+
+#[test]
+fn station_files_or_output_fail(rt: HostRuntime) -> Result<(), Fail> {
+    let mut hub = Vec::new(rt.alloc());
+    push_word(&mut hub, 3, 0, 0, 0)?;
+    push_word(&mut hub, 3, 1, 0, 0)?;
+    for number in 0..2 {
+        let ended = station(&rt, &hub, file_fails(&[number]))?;
+        ends(&rt, ended, 8, b"", b"dcnet: file fault\n", FORMER);
+    }
+    let ended = station(&rt, &hub, output_fails(&[0]))?;
+    ends(&rt, ended, 9, b"", b"dcnet: output fault\n", FORMER);
     Ok(())
 }
 
@@ -326,7 +393,8 @@ fn station_wire_fails(rt: HostRuntime) -> Result<(), Fail> {
 fn no_such_station(rt: HostRuntime) -> Result<(), Fail> {
     let keys = key_file(&rt, 2, 2, &[(0, 1)], &[])?;
     let words = ["station", "x", "2", "k.bin", "s.txt"];
-    let ended = call(&rt, &words, &keys, b"", b"", b"", &[], &[0])?;
+    let fails = wire_fails(&[0]);
+    let ended = call(&rt, &words, &keys, b"", b"", b"", &[], fails)?;
     ends(
         &rt,
         ended,
@@ -357,7 +425,7 @@ fn station_logs_all(rt: HostRuntime) -> Result<(), Fail> {
     push_word(&mut hub, 3, 4, 0, 0)?;
     let words = ["station", "x", "1", "k.bin", "s.txt"];
     let stream = b"short 000000000000000000000000000003\n";
-    let ended = call(&rt, &words, &keys, stream, &hub, b"", &[], &[])?;
+    let ended = call(&rt, &words, &keys, stream, &hub, b"", &[], NONE)?;
     ends(&rt, ended, 0, LOG, b"", FORMER);
     Ok(())
 }

@@ -1,4 +1,4 @@
-use crate::in_memory::{Due, FORMER, Given, check, done, key_file, refuses};
+use crate::in_memory::{FORMER, done, files_fail, key_file, output_fails, refuses};
 use dc_field::NoMemory;
 use std::process::Abort;
 use std::test::Fail;
@@ -288,33 +288,7 @@ fn steerings_whose_files_or_output_fail(rt: HostRuntime) -> Result<(), Fail> {
         ("s.txt", DEALT),
         ("w.txt", WANTED),
     ];
-    for call in 0..7 {
-        let given = Given {
-            words: STEER,
-            files: &files,
-            shelf_fails: &[call],
-            out_fails: &[],
-        };
-        let due = Due {
-            status: 8,
-            out: b"",
-            err: b"dcnet: file fault\n",
-            written: FORMER,
-        };
-        check(&rt, given, due)?;
-    }
-    let given = Given {
-        words: STEER,
-        files: &files,
-        shelf_fails: &[],
-        out_fails: &[0],
-    };
-    let due = Due {
-        status: 9,
-        out: b"",
-        err: b"dcnet: output fault\n",
-        written: steered.as_slice(),
-    };
-    check(&rt, given, due)?;
+    files_fail(&rt, STEER, &files, 7)?;
+    output_fails(&rt, STEER, &files, steered.as_slice())?;
     Ok(())
 }

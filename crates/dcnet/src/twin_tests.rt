@@ -1,4 +1,4 @@
-use crate::in_memory::{Due, FORMER, Given, check, done, key_file, refuses};
+use crate::in_memory::{done, files_fail, key_file, output_fails, refuses};
 use std::test::Fail;
 
 /// Four stations in a ring; the last one is a member.
@@ -226,33 +226,7 @@ fn twins_whose_files_or_output_fail(rt: HostRuntime) -> Result<(), Fail> {
         ("c.txt", NINE),
         ("p.txt", EXCHANGED),
     ];
-    for call in 0..7 {
-        let given = Given {
-            words: TWIN,
-            files: &files,
-            shelf_fails: &[call],
-            out_fails: &[],
-        };
-        let due = Due {
-            status: 8,
-            out: b"",
-            err: b"dcnet: file fault\n",
-            written: FORMER,
-        };
-        check(&rt, given, due)?;
-    }
-    let given = Given {
-        words: TWIN,
-        files: &files,
-        shelf_fails: &[],
-        out_fails: &[0],
-    };
-    let due = Due {
-        status: 9,
-        out: b"",
-        err: b"dcnet: output fault\n",
-        written: shifted.as_slice(),
-    };
-    check(&rt, given, due)?;
+    files_fail(&rt, TWIN, &files, 7)?;
+    output_fails(&rt, TWIN, &files, shifted.as_slice())?;
     Ok(())
 }
