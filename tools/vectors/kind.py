@@ -17,6 +17,7 @@ class Kind(NamedTuple):
     claims: Callable[[dict], list]  # the statements of one line; `refl` has to prove each. None: not a case of this kind
     batch: int = 10  # how many cases one lemma file has
     helpers: str = ""  # definitions that the statements use, put at the top of each lemma file
+    slow: bool = False  # its crates take minutes to prove: a folder without a case of it is no failure, unless --kinds names it
 
 
 # what every lemma file may use

@@ -1,9 +1,11 @@
 """Kinds of sessions: frames, what a station sends and prints, what a hub sends, prints and writes."""
 
-from .file_kinds import pairs_of, stream_file
-from .kind import Kind, byte_list, key_pair, listing, record, word, words
+import re
 
-# All definitions that these kinds use. `computing` opens every definition of one station.
+from .file_kinds import pairs_of, stream_file
+from .kind import Kind, byte_list, key_pair, listing, numbers, record, word, words
+
+# All definitions that these kinds use. `computing` opens every definition of one station. Those of refusals are of the crate `dc_live`.
 FRAMES = {
     "dc_spec.specs.Words": "word_of",
     "dc_spec.specs.Frames": "hello send all",
@@ -27,6 +29,19 @@ HUBS = {
     **FRAMES,
     "dc_spec.specs.Recorded": "transcript_bytes superposed",
     "dc_spec.specs.Text": "words_text",
+}
+REFUSED = {
+    **FRAMES,
+    "dc_frame.specs.Reading": "first reading_from reading capped",
+    "dc_frame.specs.declared.fault.FrameKind.TheVariants": "Tag Length Symbol",
+    "dc_live.specs.declared.fault.PeerFault.TheVariants": "Frame Unexpected Hello Round",
+}
+REFUSED_STATIONS = {**REFUSED, "dc_live.specs.Hearing": "sums_heard"}
+REFUSED_HUBS = {
+    **REFUSED,
+    "dc_hub_rules.specs.Hubs": "round_start complete_rounds",
+    "dc_live.specs.Greeting": "greeting_fault",
+    "dc_live.specs.HubSession": "words_heard sums_bytes",
 }
 MOST_AT_ONCE = 20  # the words of a longer session are computed one by one, since one lemma would take too much memory
 HEADERS = {1: (6, "hello"), 2: (66, "send"), 3: (66, "all")}
@@ -73,10 +88,10 @@ def frames(case):
     return [f"frames_bytes {listing([frame(kind, item) for kind, item in read])} ≡ {byte_list(case['bytes'][: 2 * size])}"]
 
 
-def frame_fault(printed):
-    """A fault as it is printed (`at=69 tag seen=9`) as a term."""
+def fault_record(printed):
+    """A fault of a frame as it is printed (`at=69 tag seen=9`) as a term."""
     at, kind, seen = printed.split(" ")
-    return f"(Err {record(at=at[3:], kind=f'{kind.capitalize()} {seen[5:]}')})"
+    return record(at=at[3:], kind=f"{kind.capitalize()} {seen[5:]}")
 
 
 def reading_claim(read, fed, ends):
@@ -97,7 +112,7 @@ def frames_read(case):
     for place in places[-1:] if case["fault"] is None else places[-2:]:
         there = [one for one in read if one[2] <= place]
         faulty = case["fault"] is not None and place == case["fed"]
-        ends = frame_fault(case["fault"]) if faulty else f"Ok {byte_list(data[whole:place].hex())}"
+        ends = f"(Err {fault_record(case['fault'])})" if faulty else f"Ok {byte_list(data[whole:place].hex())}"
         claims.append(reading_claim(there, data[:place], ends))
     for count, (_, _, fed) in enumerate(read):
         before = places[places.index(fed) - 1]
@@ -195,22 +210,134 @@ def sum_word(published):
     return "".join(f"{sum(int(digits[at : at + 5], 16) for digits in published) % 65537:05x}" for at in range(0, 80, 5))
 
 
+def refusal(case):
+    """The peer that a line accuses, and what its bytes show: a fault as a term, or None and the count of bytes after which they ended."""
+    accused = re.fullmatch(r"dcnet: peer (\d+): (\w+) (.*)", case["line"])
+    peer, kind, printed = int(accused[1]), accused[2], accused[3]
+    if kind == "ended":
+        return peer, "None", int(printed[3:])
+    if kind == "frame":
+        return peer, f"(Some (Frame {fault_record(printed)}))", None
+    numbers_seen = " ".join(part.split("=")[1] for part in printed.split(" "))
+    return peer, f"(Some ({kind.capitalize()} {numbers_seen}))", None
+
+
+def end_claims(digits, ended):
+    """That these bytes ended after so many, where they ended."""
+    return [] if ended is None else [f"capped (length {{A = ℕ}} {byte_list(digits)}) ≡ {ended}"]
+
+
+def heard_claim(heard, digits, spoken, fault):
+    """That these words are heard of bytes, and then this fault."""
+    return f"{heard} {byte_list(digits)} ≡ {record(words=words(spoken), fault=fault)}"
+
+
+def station_refusals(case):
+    """What a station heard of its hub, and why it refused it."""
+    if case["status"] != 11:
+        return None
+    rounds, digits = int(case["keys"][12:16], 16), case["peer"]
+    heard = words_in_order(bytes.fromhex(digits), "all")[:rounds]
+    peer, fault, ended = refusal(case)
+    if peer != 0 or len(heard) == rounds:
+        raise ValueError("a station has one peer, and at a refusal a sum is missing")
+    return [heard_claim(f"sums_heard {rounds}", digits, heard, fault), *end_claims(digits, ended)]
+
+
+def greeting_claim(case, told, digits, fault):
+    """That after the hellos of these stations a peer's bytes show this fault, or none."""
+    seats = record(stations=case["stations"], words=case["words"], told=numbers(told), seats="[]")
+    return f"greeting_fault {seats} {byte_list(digits)} ≡ {fault}"
+
+
+def greeted_claims(case, told):
+    """That the first bytes of the first peers are the hellos of these stations, and fit."""
+    claims = []
+    for peer, station in enumerate(told):
+        digits, hello = case["peers"][peer][:18], (station, case["stations"], case["words"])
+        claims.append(reading_claim([("hello", hello, 9)], bytes.fromhex(digits), "Ok []"))
+        claims.append(greeting_claim(case, told[:peer], digits, "None"))
+    return claims
+
+
+def greeted_stations(case):
+    """The stations of the hellos that fit, up to the first peer whose first frame is no such hello."""
+    told = []
+    for digits in case["peers"][: case["stations"]]:
+        kind, item, _ = (frames_of(bytes.fromhex(digits)) or [(None, None, None)])[0]
+        if kind != "hello" or item[1:] != [case["stations"], case["words"]] or item[0] >= case["stations"] or item[0] in told:
+            break
+        told.append(item[0])
+    return told
+
+
+def spoken_words(case):
+    """The words of each peer's `send` frames in order, behind its hello."""
+    return [words_in_order(bytes.fromhex(one)[9:], "send")[: case["words"]] for one in case["peers"][: case["stations"]]]
+
+
+def sums_claims(case, told, rounds):
+    """That so many rounds are complete by the words that the peers gave, and that their sums, or a beginning of them, were sent to each peer."""
+    spoken = spoken_words(case)
+    arrivals = listing([record(station=station, round=number, word=word(said[number])) for number in range(rounds) for station, said in zip(told, spoken)])
+    sums = f"sums_bytes {case['stations']} {arrivals} {rounds}"
+    sent = [sent_claim(sums, digits, case["status"] == 11) for digits in sorted(set(case["sent"][: case["stations"]]))]
+    return [f"complete_rounds {case['stations']} {case['words']} {arrivals} ≡ {rounds}", *sent]
+
+
+def refused_greeting(case, told):
+    """Why a hub refused the hello of a peer, where it accepted those of all peers before it."""
+    peer, fault, ended = refusal(case)
+    if peer != len(told) or any(case["sent"]):
+        raise ValueError("another peer is refused, or something was sent before all peers are greeted")
+    digits = case["peers"][peer]
+    claims = [greeting_claim(case, told, digits, fault), *end_claims(digits, ended)]
+    return claims if ended is None else [*claims, f"(reading {byte_list(digits)}).frames ≡ []"]
+
+
+def refused_word(case, told):
+    """Why a hub refused a peer in a round, and that it sent the sums of the rounds before it."""
+    peer, fault, ended = refusal(case)
+    spoken, rounds = spoken_words(case), len(spoken_words(case)[peer])
+    claims = [heard_claim(f"words_heard {case['words']}", case["peers"][peer], spoken[peer], fault), *end_claims(case["peers"][peer], ended)]
+    for other, said in enumerate(spoken):
+        claims.append(f"take {rounds} (words_heard {case['words']} {byte_list(case['peers'][other])}).words ≡ {words(said[:rounds])}")
+    return claims + sums_claims(case, told, rounds)
+
+
+def hub_refusals(case):
+    """Why a hub refused a peer, and what it had sent to each; where the wire failed, that it had sent a beginning of sums."""
+    if case["status"] == 10 and any(case["sent"]):
+        return sums_claims(case, greeted_stations(case), -(-max(map(len, case["sent"])) // 138))
+    if case["status"] != 11:
+        return None
+    told = greeted_stations(case)
+    return greeted_claims(case, told) + (refused_greeting if len(told) < case["stations"] else refused_word)(case, told)
+
+
+def unchecked_wire(case):
+    """What of a session that a wire ended is not checked."""
+    return "no kind computes at which call the wire fails" if case["status"] == 10 else None
+
+
 def unchecked_station(case):
     """What of a station's session is not checked."""
     if not has_session(case):
         return "agreement of files, and key files of version 2, are not defined yet"
-    return "no kind computes how a session is refused" if case["status"] else None
+    return unchecked_wire(case)
 
 
 # what of a line no kind here checks
 UNCHECKED = {
     "station_sessions": unchecked_station,
-    "hub_sessions": lambda case: "no kind computes how a session is refused" if case["status"] else None,
+    "hub_sessions": unchecked_wire,
 }
 
 KINDS = {
     "frames_written": Kind("frames", FRAMES, "word_of", frames, 50),
     "frames_read": Kind("frames", READ_FRAMES, "word_of first reading_from", frames_read, 10),
     "station_sessions": Kind("station_sessions", STATIONS, "computing digits", station_sessions, 10),
+    "station_refusals": Kind("station_sessions", REFUSED_STATIONS, "word_of first reading_from sums_heard", station_refusals, 10, slow=True),
     "hub_sessions": Kind("hub_sessions", HUBS, "word_of", hub_sessions, 10),
+    "hub_refusals": Kind("hub_sessions", REFUSED_HUBS, "word_of first reading_from words_heard round_start", hub_refusals, 5, slow=True),
 }
