@@ -10,7 +10,7 @@ use crate::reading::{malformed, read_file};
 use crate::writing::write_file;
 use dc_edge::Shelf;
 use dc_field::{Bytes, MANIFEST_LIMIT, NoMemory, Refusal};
-use dc_keyfile::{generate, generate_seeds, key_bytes, seed_bytes};
+use dc_keyfile::{generate_seeds, generated_bytes, seed_bytes};
 use dc_manifest::{Manifest, read_manifest};
 use std::alloc::Global;
 
@@ -86,10 +86,7 @@ fn keys_of_manifest(
     ensures { IfOk result (λ bytes. bytes ≡ key_file_for material seed.now manifest.now) }
 {
     match material {
-        KeyMaterial::Pads => {
-            let keys = generate(alloc, seed, &manifest.graph, manifest.words)?;
-            key_bytes(alloc, &keys)
-        }
+        KeyMaterial::Pads => generated_bytes(alloc, seed, &manifest.graph, manifest.words),
         KeyMaterial::Seeds => {
             let seeds = generate_seeds(alloc, seed, &manifest.graph, manifest.words)?;
             seed_bytes(alloc, &seeds)

@@ -1,7 +1,9 @@
 use crate::answers::{done, fault_of};
 use dc_field::Bytes;
 use dc_graph::Graph;
-use dc_keyfile::{KeyFault, element, generate, key_bytes, read_keys};
+use dc_keyfile::{
+    KeyFault, element, generate, generate_shared, generated_bytes, key_bytes, read_keys,
+};
 use dc_keys::KeyFile;
 use std::process::Abort;
 use std::test::*;
@@ -85,6 +87,51 @@ fn keys_of_a_triangle(rt: HostRuntime) {
     let read = done(&rt, read_keys(&rt, rt.alloc(), bytes.as_slice()));
     let again = done(&rt, key_bytes(rt.alloc(), &read));
     assert_eq!(rt; again.as_slice(), bytes.as_slice());
+}
+
+/// The bytes written while the pads are generated are those of the generated keys.
+fn written_alike<R: AllocGlobal + Abort>(rt: &R, stations: u16, edges: &[(u16, u16)]) {
+    let g = done(rt, Graph::new(rt.alloc(), stations, edges));
+    if 3 < g.edge_count() {
+        panic!(rt; "at most three edges");
+    }
+    let keys = done(rt, generate(rt.alloc(), &[7; 32], &g, 2));
+    let due = done(rt, key_bytes(rt.alloc(), &keys));
+    let bytes = done(rt, generated_bytes(rt.alloc(), &[7; 32], &g, 2));
+    assert_eq!(rt; bytes.as_slice(), due.as_slice());
+}
+
+#[test]
+fn written_while_generated(rt: HostRuntime) {
+    written_alike(&rt, 3, &[(1, 2), (0, 1), (0, 2)]);
+    written_alike(&rt, 1, &[]);
+}
+
+/// The keys that so many workers generate are those of one.
+fn shared_alike<R: AllocGlobal + Threads + Sync + Abort>(
+    rt: &R,
+    edges: &[(u16, u16)],
+    workers: u32,
+) {
+    let g = done(rt, Graph::new(rt.alloc(), 3, edges));
+    if 3 < g.edge_count() || workers == 0 {
+        panic!(rt; "at most three edges, and some workers");
+    }
+    let keys = done(rt, generate(rt.alloc(), &[7; 32], &g, 2));
+    let due = done(rt, key_bytes(rt.alloc(), &keys));
+    let shared = done(
+        rt,
+        generate_shared(rt, rt.alloc(), &[7; 32], &g, 2, workers),
+    );
+    let bytes = done(rt, key_bytes(rt.alloc(), &shared));
+    assert_eq!(rt; bytes.as_slice(), due.as_slice());
+}
+
+#[test]
+fn generated_by_workers(rt: HostRuntime) {
+    shared_alike(&rt, &[(0, 1), (0, 2), (1, 2)], 2);
+    shared_alike(&rt, &[(0, 1), (0, 2), (1, 2)], 64);
+    shared_alike(&rt, &[], 2);
 }
 
 #[test]

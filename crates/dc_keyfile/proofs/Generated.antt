@@ -89,10 +89,16 @@ pair_walked base seed e count start next first symbols pads seeded begun walked 
     λ i. record { u = e.0; v = e.1; a = a i; b = b i }
 
 -- the pairs of one edge more
+pub one_place_more : {X : Type 0} (f : ℕ × ℕ → X) (edges : List (ℕ × ℕ)) (i : ℕ) (d : ℕ × ℕ) (pairs more : List X) (p : X) → i < length edges
+    → pairs ≡ map f (take i edges) → p ≡ f (get_or edges i d) → more ≡ pairs ++ p ∷ [] → more ≡ map f (take (i + 1) edges)
+one_place_more f edges i d pairs more p lt so_far here pushed =
+    pushed ∙ rw (so_far, here, take_more edges i d lt) (sym (map_push f (take i edges) (get_or edges i d)))
+
+-- the same, where the edge is known by its number
 pub one_pair_more : {X : Type 0} (f : ℕ × ℕ → X) (edges : List (ℕ × ℕ)) (i : ℕ) (e : ℕ × ℕ) (pairs more : List X) (p : X) → i < length edges → slice_get edges i ≡ Some e
     → pairs ≡ map f (take i edges) → p ≡ f e → more ≡ pairs ++ p ∷ [] → more ≡ map f (take (i + 1) edges)
 one_pair_more f edges i e pairs more p lt there so_far here pushed =
-    pushed ∙ rw (so_far, here, take_more edges i (0, 0) lt, get_or_from_slice_get edges i e (0, 0) there) (sym (map_push f (take i edges) e))
+    one_place_more f edges i (0, 0) pairs more p lt so_far (here ∙ ap f (sym (get_or_from_slice_get edges i e (0, 0) there))) pushed
 
 -- ---- a key file
 

@@ -10,7 +10,9 @@ mod Spelling
 mod Rereading
 mod SeedSpelling
 mod Putting
+mod DirectWriting
 mod WorkedElements
 mod Positions
 mod FirstAbove
 mod ReaderTests
+mod ChunkPairs

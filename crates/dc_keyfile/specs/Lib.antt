@@ -2,3 +2,4 @@ pub mod Generator
 pub mod Head
 pub mod Reading
 pub mod SeedReading
+pub mod Chunks

@@ -35,7 +35,7 @@ pub fn generate(alloc: Global, base: &[u8; 32], g: &Graph, words: u16) -> Result
     requires most_symbols { length g.now.edges * (32 * words) ≤ most_pads }
     ensures { IfOk result (λ f. f ≡ generated_keys base.now g.now words) }
 {
-    let pairs = generate_pairs(alloc, base, g, words)?;
+    let pairs = generate_pairs(alloc, base, g.edges(), words)?;
     Ok(KeyFile {
         stations: g.stations(),
         words,
@@ -79,15 +79,19 @@ fn seed_pairs(alloc: Global, base: &[u8; 32], g: &Graph) -> Result<SeedPairs, No
 }
 
 /// A pair for each edge, in the order of the edges.
-fn generate_pairs(alloc: Global, base: &[u8; 32], g: &Graph, words: u16) -> Result<Pairs, NoMemory>
+pub(crate) fn generate_pairs(
+    alloc: Global,
+    base: &[u8; 32],
+    edges: &[(u16, u16)],
+    words: u16,
+) -> Result<Pairs, NoMemory>
     requires some_words { 1 ≤ words }
     requires most_words { words ≤ most_words }
-    ensures { IfOk result (λ ps. ps ≡ map (generated_pair base.now (16 * words)) g.now.edges) }
+    ensures { IfOk result (λ ps. ps ≡ map (generated_pair base.now (16 * words)) edges.now) }
 {
-    let count = g.edge_count();
-    let mut pairs = Vec::with_capacity(alloc, count as usize)?;
-    for i in 0..count {
-        pairs.push(generate_pair(alloc, base, g.edge(i), words)?)?;
+    let mut pairs = Vec::with_capacity(alloc, edges.len())?;
+    for i in 0..edges.len() {
+        pairs.push(generate_pair(alloc, base, edges[i], words)?)?;
     }
     Ok(Pairs::from_vec(pairs))
 }
@@ -153,7 +157,8 @@ fn next_symbols(alloc: Global, stream: &mut ChaCha20Rng, count: usize) -> Result
     Ok(symbols)
 }
 
-/// The symbol of the next two words of a stream.
+/// The symbol of the next two words of a stream. Since 65537 divides 2^32 - 1, it is their sum modulo
+/// 65537.
 pub(crate) fn next_symbol(stream: &mut ChaCha20Rng) -> u32
     requires first_stream { stream.old.stream ≡ 0 }
     requires room { stream.old.word_pos + 2 < 2 ^ 64 }
@@ -163,5 +168,5 @@ pub(crate) fn next_symbol(stream: &mut ChaCha20Rng) -> u32
 {
     let high = u64::from(stream.next_word());
     let low = u64::from(stream.next_word());
-    ((high * 4294967296 + low) % 65537) as u32
+    ((high + low) % 65537) as u32
 }

@@ -41,7 +41,7 @@ pub fn seed_bytes(alloc: Global, f: &SeedFile) -> Result<Bytes, NoMemory>
 }
 
 /// Puts the first twelve bytes of a file of this version.
-fn put_head(
+pub(crate) fn put_head(
     bytes: &mut Vec<u8>,
     version: u8,
     stations: u16,
