@@ -6,7 +6,7 @@ ghost use Rattle.dc_cli.specs.Trials.{SummaryRan, TrialRan};
 
 use crate::outcome::Outcome;
 use dc_edge::{Gate, Sink};
-use dc_net::{CheckedNet, run, trial_net};
+use dc_net::{CheckedNet, run, trial_net_shared};
 use dc_view::put_trial;
 use std::alloc::Global;
 use std::thread::Threads;
@@ -32,7 +32,7 @@ pub fn run_trial<R: Threads + Sync, K: Sink, G: Gate + Sync>(
     requires most_workers { workers ≤ 64 }
     ensures { TrialRan seed stations words (K.state out.old) (K.state out.new) result }
 {
-    match trial_net(alloc, seed, stations, words) {
+    match trial_net_shared(rt, alloc, seed, stations, words, workers) {
         Ok(net) => summed_run(rt, alloc, seed, stations, words, &net, workers, out, gate),
         Err(_) => Outcome::NoMemory,
     }

@@ -31,4 +31,4 @@ pub use fault::NetFault;
 pub use net::{Net, Streams};
 pub use played::{Logs, Pendings, Played};
 pub use running::run;
-pub use trial::trial_net;
+pub use trial::{trial_net, trial_net_shared};

@@ -17,7 +17,7 @@ use std::thread::Threads;
 /// How many stations stand side by side in one product of polynomials.
 const STRIP_STATIONS: usize = 16;
 
-/// After how many rounds the keys are worth several threads.
+/// After each so many rounds there is enough to compute for several threads.
 const THREAD_ROUNDS: usize = 8;
 
 /// What the keys of each honest station add to its next word. The stations are known by their
@@ -103,8 +103,22 @@ impl RoundKeys {
             KeysAt self.new place keys station (received ++ slice_index_or row.now place [] ∷ []) }
     {
         self.taken += 1;
-        let in_place = workers == 1 || self.taken % THREAD_ROUNDS != 0;
-        take_by_all(rt, in_place, workers as usize, &mut self.strips, row);
+        let threads = threads_after(self.taken, workers);
+        take_by_all(rt, threads as usize, &mut self.strips, row);
+    }
+}
+
+/// How many of the workers are started after so many rounds: all of them after each eight, when the
+/// most is computed, and else one, since their start costs more than they save.
+pub(crate) fn threads_after(rounds: usize, workers: u32) -> u32
+    requires { 1 ≤ workers }
+    ensures some { 1 ≤ result }
+    ensures most { result ≤ workers }
+{
+    if rounds % THREAD_ROUNDS == 0 {
+        workers
+    } else {
+        1
     }
 }
 
@@ -160,19 +174,13 @@ fn strip_of(
     Ok(KeyStrip { first, keys })
 }
 
-/// Each strip takes its words of a row, in place or on at most so many threads.
-fn take_by_all<R: Threads + Sync>(
-    rt: &R,
-    in_place: bool,
-    threads: usize,
-    strips: &mut [KeyStrip],
-    row: &[Word],
-)
+/// Each strip takes its words of a row, on at most so many threads; in place where it is one.
+fn take_by_all<R: Threads + Sync>(rt: &R, threads: usize, strips: &mut [KeyStrip], row: &[Word])
     requires some { 1 ≤ threads }
     requires next { All (TakesRow row.now) strips.old }
     ensures { AllTookRow row.now strips.old strips.new }
 {
-    if in_place {
+    if threads == 1 {
         take_in_turn(strips, row);
     } else {
         take_on_threads(rt, threads, strips, row);

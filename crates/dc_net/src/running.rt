@@ -12,7 +12,7 @@ use crate::book::Book;
 use crate::checked_net::CheckedNet;
 use crate::net::Net;
 use crate::played::{Logs, Pendings, Played};
-use crate::round_keys::RoundKeys;
+use crate::round_keys::{RoundKeys, threads_after};
 use crate::seat::Seat;
 use crate::seating::{honest_list, seats_of, take_all};
 use dc_edge::Gate;
@@ -22,8 +22,9 @@ use std::alloc::Global;
 use std::thread::Threads;
 
 /// The run of a net, for 1 to 64 workers: in each round the words of the honest stations are computed
-/// by `map_words`, one piece for each, in rising order. Beside what `map_words` gives, all memory is
-/// taken before the first round and after the last.
+/// by `map_words`, one piece for each, in rising order; in the first of each eight rounds by all
+/// workers, and else by one. Beside what `map_words` gives, all memory is taken before the first round
+/// and after the last.
 pub fn run<R: Threads + Sync, G: Gate + Sync>(
     rt: &R,
     alloc: Global,
@@ -112,7 +113,8 @@ fn play_round<R: Threads + Sync, G: Gate + Sync>(
         IsRecorded net.now (rounds_of net.now (round + 1)) book.new) }
 {
     note_script(net);
-    let honest = map_words(rt, alloc, seats, workers, gate)?;
+    let threads = threads_after(usize::from(round), workers);
+    let honest = map_words(rt, alloc, seats, threads, gate)?;
     book.record(net, round, honest.as_slice(), seats.len());
     let heard = book.delivered.as_slice();
     keys.take(rt, workers, &heard[heard.len() - seats.len()..]);

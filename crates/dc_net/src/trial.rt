@@ -3,16 +3,19 @@
 ghost use Rattle.std.specs.Prelude.{◌≡◌, ◌+◌, ◌*◌, ◌%◌, ◌<◌, ◌≤◌, nat_lt, [], ◌∷◌, ◌++◌, IfOk, Some, filter, length, map};
 ghost use Rattle.std.specs.List.{range_with_len};
 ghost use Rattle.dc_spec.specs.Limits.{most_stations, most_words};
+ghost use Rattle.dc_keyfile.specs.Generator.{generated_keys};
 ghost use Rattle.dc_net.specs.TrialNets.{trial_base, trial_edges, edges_of, own_element, own_bytes, trial_stream, trial_net};
 
 use crate::checked_net::CheckedNet;
 use crate::net::{Net, Streams};
 use dc_field::{Bytes, NoMemory, Value};
 use dc_graph::{Coalition, Graph};
-use dc_keyfile::{element, generate};
+use dc_keyfile::{element, generate, generate_shared};
+use dc_keys::KeyFile;
 use dc_script::quiet;
 use dc_stream::{Longs, Shorts, Stream};
 use std::alloc::Global;
+use std::thread::Threads;
 
 /// A net of 1 to 256 stations for 1 to 4096 words, with at most 524288 for the product of the two
 /// numbers. Each station has an edge with the stations one, two and four places further; there is
@@ -32,12 +35,62 @@ pub fn trial_net(
     requires size { stations * words ≤ 524288 }
     ensures { IfOk result (λ c. c ≡ trial_net seed stations words) }
 {
-    let base = trial_base(seed);
-    let graph = Graph::of_rising(stations, trial_edges(alloc, stations)?);
-    let keys = generate(alloc, &base, &graph, words)?;
+    let graph = trial_graph(alloc, stations)?;
+    let keys = generate(alloc, &trial_base(seed), &graph, words)?;
+    trial_with(alloc, seed, stations, graph, keys, words)
+}
+
+/// As `trial_net`, by workers: each generates the pads of some of the edges.
+pub fn trial_net_shared<R: Threads + Sync>(
+    rt: &R,
+    alloc: Global,
+    seed: u32,
+    stations: u16,
+    words: u16,
+    workers: u32,
+) -> Result<CheckedNet, NoMemory>
+    requires some_stations { 1 ≤ stations }
+    requires most_stations { stations ≤ most_stations }
+    requires some_words { 1 ≤ words }
+    requires most_words { words ≤ most_words }
+    requires size { stations * words ≤ 524288 }
+    requires some_workers { 1 ≤ workers }
+    ensures { IfOk result (λ c. c ≡ trial_net seed stations words) }
+{
+    let graph = trial_graph(alloc, stations)?;
+    let keys = generate_shared(rt, alloc, &trial_base(seed), &graph, words, workers)?;
+    trial_with(alloc, seed, stations, graph, keys, words)
+}
+
+/// The key graph.
+fn trial_graph(alloc: Global, n: u16) -> Result<Graph, NoMemory>
+    requires some_stations { 1 ≤ n }
+    requires most_stations { n ≤ most_stations }
+    ensures { IfOk result (λ g. g ≡ record { stations = n; edges = trial_edges n }) }
+{
+    let edges = trial_edges(alloc, n)?;
+    Ok(Graph::of_rising(n, edges))
+}
+
+/// The net with this key graph and these keys.
+fn trial_with(
+    alloc: Global,
+    seed: u32,
+    stations: u16,
+    graph: Graph,
+    keys: KeyFile,
+    words: u16,
+) -> Result<CheckedNet, NoMemory>
+    requires most_stations { stations ≤ most_stations }
+    requires some_words { 1 ≤ words }
+    requires most_words { words ≤ most_words }
+    requires graph { graph ≡ record { stations = stations; edges = trial_edges stations } }
+    requires keys { keys ≡ generated_keys (trial_base seed) graph words }
+    ensures { IfOk result (λ c. c ≡ trial_net seed stations words) }
+{
     let coalition = Coalition::empty(alloc);
     let script = quiet(alloc, &coalition, stations, words)?;
-    let streams = trial_streams(alloc, &base, stations)?;
+    let streams = trial_streams(alloc, &trial_base(seed), stations)?;
     Ok(CheckedNet::of_agreeing(Net {
         graph,
         coalition,
