@@ -95,32 +95,59 @@ fn has<R: Abort>(rt: &R, t: &Transcript, sizes: (u16, u16), due: &[Word]) {
     }
 }
 
+/// The first of two rounds of two stations, with the refusals of words that are out of turn.
+fn first_round<R: Abort>(
+    rt: &R,
+    core: &mut HubCore,
+    a: &Word,
+    b: &Word,
+    c: &Word,
+) -> Result<(), Fail> {
+    stands(rt, core, 0, Some(0));
+    waits(rt, core, (0, 0), a, 1)?;
+    assert_eq!(rt; refused(core, (0, 0), b), (4, 1));
+    assert_eq!(rt; refused(core, (1, 1), b), (3, 0));
+    stands(rt, core, 0, Some(1));
+    completes(rt, core, (1, 0), c, &ends(0, 7)?)
+}
+
+/// The second round, and the refusals after it.
+fn second_round<R: Abort>(
+    rt: &R,
+    core: &mut HubCore,
+    a: &Word,
+    b: &Word,
+    c: &Word,
+) -> Result<(), Fail> {
+    stands(rt, core, 1, Some(0));
+    assert_eq!(rt; refused(core, (0, 0), a), (2, 1));
+    assert_eq!(rt; refused(core, (2, 1), a), (0, 2));
+    waits(rt, core, (1, 1), b, 0)?;
+    completes(rt, core, (0, 1), c, &ends(2, 9)?)?;
+    stands(rt, core, 2, None);
+    assert_eq!(rt; refused(core, (0, 1), a), (1, 0));
+    assert_eq!(rt; refused(core, (2, 0), a), (0, 2));
+    Ok(())
+}
+
+/// Asserts the sums of a transcript.
+fn sums_are<R: AllocGlobal + Abort>(rt: &R, t: &Transcript, due: &[Word]) -> Result<(), Fail> {
+    for (w, sum) in sums(rt.alloc(), t)?.as_slice().iter().zip(due) {
+        same(rt, w, sum);
+    }
+    Ok(())
+}
+
 /// Two stations and two rounds, with each refusal, up to the transcript.
 #[test]
 fn two_rounds_of_two_stations(rt: HostRuntime) -> Result<(), Fail> {
     let (a, b, c) = (ends(1, 2)?, ends(3, 4)?, ends(65536, 5)?);
     let mut core = HubCore::start(rt.alloc(), 2, 2)?;
-    stands(&rt, &core, 0, Some(0));
-    waits(&rt, &mut core, (0, 0), &a, 1)?;
-    assert_eq!(&rt; refused(&mut core, (0, 0), &b), (4, 1));
-    assert_eq!(&rt; refused(&mut core, (1, 1), &b), (3, 0));
-    stands(&rt, &core, 0, Some(1));
-    completes(&rt, &mut core, (1, 0), &c, &ends(0, 7)?)?;
-    stands(&rt, &core, 1, Some(0));
-    assert_eq!(&rt; refused(&mut core, (0, 0), &a), (2, 1));
-    assert_eq!(&rt; refused(&mut core, (2, 1), &a), (0, 2));
-    waits(&rt, &mut core, (1, 1), &b, 0)?;
-    completes(&rt, &mut core, (0, 1), &c, &ends(2, 9)?)?;
-    stands(&rt, &core, 2, None);
-    assert_eq!(&rt; refused(&mut core, (0, 1), &a), (1, 0));
-    assert_eq!(&rt; refused(&mut core, (2, 0), &a), (0, 2));
+    first_round(&rt, &mut core, &a, &b, &c)?;
+    second_round(&rt, &mut core, &a, &b, &c)?;
     let t = finished(core)?;
     has(&rt, &t, (2, 2), &[a, c, c, b]);
-    let due = [ends(0, 7)?, ends(2, 9)?];
-    for (w, sum) in sums(rt.alloc(), &t)?.as_slice().iter().zip(&due) {
-        same(&rt, w, sum);
-    }
-    Ok(())
+    sums_are(&rt, &t, &[ends(0, 7)?, ends(2, 9)?])
 }
 
 /// The same words of one round in the other order.

@@ -1,5 +1,7 @@
+ghost use Rattle.std.specs.Prelude.{◌≡◌};
+
 use dc_cli::{dcnet, status};
-use dc_edge::{MemoryShelf, MemorySink, MemoryWire, OpenGate, Shelf};
+use dc_edge::{Gate, MemoryShelf, MemorySink, MemoryWire, OpenGate, Shelf};
 use dc_field::NoMemory;
 use std::process::Abort;
 use std::thread::Threads;
@@ -39,23 +41,58 @@ pub fn check<R: Threads + Sync + AllocGlobal + Abort>(
     shelf.hold(alloc, "o.bin", FORMER)?;
     let mut out = MemorySink::new(alloc, 40000, given.out_fails)?;
     let mut err = MemorySink::new(alloc, 1000, &[])?;
-    let mut line = Vec::new(alloc);
-    for word in given.words {
-        line.push(String::from_str(alloc, word)?)?;
-    }
-    let mut wire = MemoryWire::new(alloc, 0, 1, &[], &[])?;
-    let outcome = dcnet(
-        rt, alloc, &line, &mut shelf, &mut out, &mut err, &mut wire, &OpenGate,
-    );
-    assert_eq!(rt; status(&outcome), due.status);
+    let status = call_alone(rt, given.words, &mut shelf, &mut out, &mut err)?;
+    assert_eq!(rt; status, due.status);
     assert_eq!(rt; out.bytes(), due.out);
     assert_eq!(rt; err.bytes(), due.err);
-    let written = shelf.read(alloc, "o.bin", 100000);
-    assert_eq!(rt;
-        written.as_ref().map(|bytes| bytes.as_slice()),
-        Ok(due.written)
-    );
+    holds(rt, &mut shelf, "o.bin", due.written);
     Ok(())
+}
+
+/// The status with which a call over objects in memory ends.
+pub fn call<R: Threads + Sync + AllocGlobal + Abort, G: Gate + Sync>(
+    rt: &R,
+    words: &[&str],
+    shelf: &mut MemoryShelf,
+    out: &mut MemorySink,
+    err: &mut MemorySink,
+    wire: &mut MemoryWire,
+    gate: &G,
+) -> Result<u8, NoMemory>
+    requires { wire.old.peers ≡ 0 }
+{
+    let line = line_of(rt, words)?;
+    let outcome = dcnet(rt, rt.alloc(), &line, shelf, out, err, wire, gate);
+    Ok(status(&outcome))
+}
+
+/// A command line with these words.
+fn line_of<R: AllocGlobal>(rt: &R, words: &[&str]) -> Result<Vec<String>, NoMemory> {
+    let mut line = Vec::new(rt.alloc());
+    for word in words {
+        line.push(String::from_str(rt.alloc(), word)?)?;
+    }
+    Ok(line)
+}
+
+/// As `call`, with a wire that has no peer and a gate that lets all pass.
+pub fn call_alone<R: Threads + Sync + AllocGlobal + Abort>(
+    rt: &R,
+    words: &[&str],
+    shelf: &mut MemoryShelf,
+    out: &mut MemorySink,
+    err: &mut MemorySink,
+) -> Result<u8, NoMemory> {
+    let mut wire = MemoryWire::new(rt.alloc(), 0, 1, &[], &[])?;
+    call(rt, words, shelf, out, err, &mut wire, &OpenGate)
+}
+
+/// Asserts what a file of the shelf holds.
+pub fn holds<R: AllocGlobal + Abort>(rt: &R, shelf: &mut MemoryShelf, name: &str, due: &[u8]) {
+    match shelf.read(rt.alloc(), name, 100000) {
+        Ok(bytes) => assert_eq!(rt; bytes.as_slice(), due),
+        Err(_) => assert!(rt; false),
+    }
 }
 
 /// Asserts that a call is done: this is printed, and `o.bin` holds these bytes.

@@ -1,5 +1,5 @@
-use dc_cli::{dcnet, status};
-use dc_edge::{MemoryShelf, MemorySink, MemoryWire, OpenGate, Shelf};
+use crate::in_memory::{call_alone, holds};
+use dc_edge::{MemoryShelf, MemorySink};
 use dc_field::{Bytes, NoMemory};
 use dc_graph::Graph;
 use dc_keyfile::{generate, key_bytes};
@@ -46,21 +46,10 @@ fn check<R: Threads + Sync + AllocGlobal + Abort>(
     shelf.hold(alloc, "out", b"former")?;
     let mut out = MemorySink::new(alloc, 0, &[])?;
     let mut err = MemorySink::new(alloc, 1000, &[])?;
-    let mut line = Vec::new(alloc);
-    for word in words {
-        line.push(String::from_str(alloc, word)?)?;
-    }
-    let mut wire = MemoryWire::new(alloc, 0, 1, &[], &[])?;
-    let outcome = dcnet(
-        rt, alloc, &line, &mut shelf, &mut out, &mut err, &mut wire, &OpenGate,
-    );
-    assert_eq!(rt; status(&outcome), due.status);
+    let status = call_alone(rt, words, &mut shelf, &mut out, &mut err)?;
+    assert_eq!(rt; status, due.status);
     assert_eq!(rt; err.bytes(), due.err);
-    let written = shelf.read(alloc, "out", 10000);
-    assert_eq!(rt;
-        written.as_ref().map(|bytes| bytes.as_slice()),
-        Ok(due.written)
-    );
+    holds(rt, &mut shelf, "out", due.written);
     Ok(())
 }
 

@@ -1,5 +1,5 @@
-use dc_cli::{dcnet, status};
-use dc_edge::{Gate, MemoryShelf, MemorySink, MemoryWire, OpenGate};
+use crate::in_memory::{call, call_alone};
+use dc_edge::{Gate, MemoryShelf, MemorySink, MemoryWire};
 use dc_field::NoMemory;
 use std::process::Abort;
 use std::sync::atomic::{AtomicBool, Ordering};
@@ -50,15 +50,8 @@ fn check<R: Threads + Sync + AllocGlobal + Abort>(
     shelf.hold(alloc, "a.txt", b"")?;
     let mut out = MemorySink::new(alloc, 1000, &[])?;
     let mut err = MemorySink::new(alloc, 1000, &[])?;
-    let mut line = Vec::new(alloc);
-    for word in words {
-        line.push(String::from_str(alloc, word)?)?;
-    }
-    let mut wire = MemoryWire::new(alloc, 0, 1, &[], &[])?;
-    let outcome = dcnet(
-        rt, alloc, &line, &mut shelf, &mut out, &mut err, &mut wire, &OpenGate,
-    );
-    assert_eq!(rt; status(&outcome), due);
+    let status = call_alone(rt, words, &mut shelf, &mut out, &mut err)?;
+    assert_eq!(rt; status, due);
     assert_eq!(rt; out.bytes(), printed);
     assert_eq!(rt; err.bytes(), told);
     Ok(())
@@ -152,15 +145,9 @@ fn passes<R: Threads + Sync + AllocGlobal + Abort>(
     shelf.hold(alloc, "a.txt", b"")?;
     let mut out = MemorySink::new(alloc, 4000, &[])?;
     let mut err = MemorySink::new(alloc, 1000, &[])?;
-    let mut line = Vec::new(alloc);
-    for word in words {
-        line.push(String::from_str(alloc, word)?)?;
-    }
     let mut wire = MemoryWire::new(alloc, 0, 1, &[], &[])?;
-    let outcome = dcnet(
-        rt, alloc, &line, &mut shelf, &mut out, &mut err, &mut wire, gate,
-    );
-    assert_eq!(rt; status(&outcome), 0);
+    let status = call(rt, words, &mut shelf, &mut out, &mut err, &mut wire, gate)?;
+    assert_eq!(rt; status, 0);
     Ok(())
 }
 

@@ -1,6 +1,6 @@
-use crate::in_memory::{FORMER, key_file};
-use dc_cli::{dcnet, status};
-use dc_edge::{MemoryShelf, MemorySink, MemoryWire, OpenGate, Shelf};
+use crate::in_memory;
+use crate::in_memory::{FORMER, holds, key_file};
+use dc_edge::{MemoryShelf, MemorySink, MemoryWire, OpenGate};
 use dc_field::NoMemory;
 use std::process::Abort;
 use std::test::Fail;
@@ -79,14 +79,9 @@ fn call<R: Threads + Sync + AllocGlobal + Abort>(
     let mut wire = MemoryWire::new(alloc, 1000, 69, order, fails.wire)?;
     wire.feed_peer(alloc, first)?;
     wire.feed_peer(alloc, second)?;
-    let mut line = Vec::new(alloc);
-    for word in words {
-        line.push(String::from_str(alloc, word)?)?;
-    }
-    let outcome = dcnet(
-        rt, alloc, &line, &mut shelf, &mut out, &mut err, &mut wire, &OpenGate,
-    );
-    let status = status(&outcome);
+    let status = in_memory::call(
+        rt, words, &mut shelf, &mut out, &mut err, &mut wire, &OpenGate,
+    )?;
     Ok(Ended {
         status,
         shelf,
@@ -108,10 +103,7 @@ fn ends<R: AllocGlobal + Abort>(
     assert_eq!(rt; ended.status, status);
     assert_eq!(rt; ended.out.bytes(), out);
     assert_eq!(rt; ended.err.bytes(), err);
-    match ended.shelf.read(rt.alloc(), "o.bin", 100000) {
-        Ok(bytes) => assert_eq!(rt; bytes.as_slice(), written),
-        Err(_) => assert!(rt; false),
-    }
+    holds(rt, &mut ended.shelf, "o.bin", written);
 }
 
 /// Appends the frame of a tag for a round, whose word has this first and this last symbol and zeros between.

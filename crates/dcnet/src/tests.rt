@@ -1,5 +1,5 @@
-use dc_cli::{dcnet, status};
-use dc_edge::{MemoryShelf, MemorySink, MemoryWire, OpenGate};
+use crate::in_memory::call_alone;
+use dc_edge::{MemoryShelf, MemorySink};
 use dc_field::NoMemory;
 use std::process::Abort;
 use std::test::Fail;
@@ -45,15 +45,8 @@ fn check<R: Threads + Sync + AllocGlobal + Abort>(
     shelf.hold(alloc, "t.bin", given.file)?;
     let mut out = MemorySink::new(alloc, given.out_room, &[])?;
     let mut err = MemorySink::new(alloc, given.err_room, &[])?;
-    let mut line = Vec::new(alloc);
-    for word in words {
-        line.push(String::from_str(alloc, word)?)?;
-    }
-    let mut wire = MemoryWire::new(alloc, 0, 1, &[], &[])?;
-    let outcome = dcnet(
-        rt, alloc, &line, &mut shelf, &mut out, &mut err, &mut wire, &OpenGate,
-    );
-    assert_eq!(rt; status(&outcome), due.status);
+    let status = call_alone(rt, words, &mut shelf, &mut out, &mut err)?;
+    assert_eq!(rt; status, due.status);
     assert_eq!(rt; out.bytes(), due.out);
     assert_eq!(rt; err.bytes(), due.err);
     Ok(())
